@@ -1,0 +1,16 @@
+-- What a pass does at a node, its list and the node together; and what is known of a node that it left as it is.
+use Rattle.std.specs.Prelude.{◌≡◌, true, List}
+use Rattle.swc_ast.specs.declared.Span.{Span}
+use Rattle.swc_ast.specs.Tree.{Label, Tree, node, Forest}
+use Rattle.swc_ast.specs.Weight.{is_list}
+use Rattle.swc_static.specs.Names.{label_of, trees_of}
+use Rattle.swc_walk.specs.Pass.{Pass, is_visited}
+
+pub data Does (X : Pass) : Tree → Tree → Type 0 where
+  at_node : {a b : Tree} → X.steps a b → Does X a b
+  at_list : {l : Label} {ss : List Span} {ts us : Forest} → is_list l ≡ true → X.tidies l ts us → Does X (node l ss ts) (node l ss us)
+  at_both : {l : Label} {ss : List Span} {ts us : Forest} {b : Tree} → is_list l ≡ true → X.tidies l ts us → X.steps (node l ss us) b → Does X (node l ss ts) b
+
+pub record Finished (X : Pass) (t : Tree) : Type 0 where
+  pub rests_there : is_visited (label_of t) ≡ true → X.rests t
+  pub tidy_there : is_list (label_of t) ≡ true → X.tidy (label_of t) (trees_of t)

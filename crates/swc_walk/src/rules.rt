@@ -1,0 +1,73 @@
+//! What a pass does at a node, once the node's children are walked.
+ghost use Rattle.std.specs.Prelude.{◌≡◌, IfOk, IsFalse};
+ghost use Rattle.swc_ast.specs.Modules.{item_tree};
+ghost use Rattle.swc_ast.specs.Views.{expr_tree, stmt_tree};
+ghost use Rattle.swc_walk.specs.Pass.{Pass};
+ghost use Rattle.swc_walk.specs.Walks.{Became, Fits};
+ghost use Rattle.swc_walk.specs.Lists.{ItemsBecame, ListBecame};
+
+use std::alloc::AllocError;
+use swc_ast::{Expr, ModuleItem, Stmt};
+
+/// Where an expression stands.
+#[derive(Clone, Copy, Debug, PartialEq, Eq)]
+pub enum Place {
+    /// The value is used.
+    Value,
+    /// The value is not used: the expression is a statement.
+    Statement,
+    /// What a call calls.
+    Callee,
+    /// The operand of `typeof`.
+    TypeOf,
+    /// The operand of `delete`.
+    Delete,
+}
+
+/// Where a list of statements stands.
+#[derive(Clone, Copy, Debug, PartialEq, Eq)]
+pub enum ListPlace {
+    Block,
+    Body,
+    Case,
+    Script,
+}
+
+/// The rules of a pass. Each method gets a node whose children are walked, may change it in place,
+/// and says whether it did: if it did not, no rule fits the node.
+pub trait Rules {
+    ghost pass: { Self → Pass };
+
+    /// Whether the walk goes into an expression: one that it doesn't enter stays as it is.
+    fn enters_expr(&self, _e: &Expr) -> bool
+        ensures { IsFalse result → (pass self.now).skips (expr_tree _e.now) }
+    {
+        true
+    }
+
+    /// Whether the walk goes into a statement.
+    fn enters_stmt(&self, _s: &Stmt) -> bool
+        ensures { IsFalse result → (pass self.now).skips (stmt_tree _s.now) }
+    {
+        true
+    }
+
+    fn leave_expr(&self, place: Place, e: &mut Expr) -> Result<bool, AllocError>
+        ensures steps { IfOk result (λ changed. Became (pass self.now) changed (expr_tree e.old) (expr_tree e.new)) }
+        ensures fits { IfOk result (λ changed. Fits place (expr_tree e.old) → Fits place (expr_tree e.new)) };
+
+    fn leave_stmt(&self, s: &mut Stmt) -> Result<bool, AllocError>
+        ensures { IfOk result (λ changed. Became (pass self.now) changed (stmt_tree s.old) (stmt_tree s.new)) };
+
+    /// A list of statements, once each of them is walked: it may drop some, add some and flatten some.
+    fn leave_list(&self, place: ListPlace, stmts: &mut Vec<Stmt>) -> Result<bool, AllocError>
+        ensures { IfOk result (λ changed. ListBecame (pass self.now) place changed stmts.old.items stmts.new.items) };
+
+    /// An item of a module that is no statement.
+    fn leave_item(&self, item: &mut ModuleItem) -> Result<bool, AllocError>
+        ensures { IfOk result (λ changed. Became (pass self.now) changed (item_tree item.old) (item_tree item.new)) };
+
+    /// The items of a module, once each of them is walked.
+    fn leave_items(&self, items: &mut Vec<ModuleItem>) -> Result<bool, AllocError>
+        ensures { IfOk result (λ changed. ItemsBecame (pass self.now) changed items.old.items items.new.items) };
+}
