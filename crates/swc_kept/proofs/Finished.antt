@@ -8,9 +8,9 @@ use Rattle.swc_ast.specs.Weight.{is_list}
 use Rattle.swc_static.specs.Walks as finished
 use Rattle.swc_static.specs.Walks.{Leaves, AllLeave}
 use Rattle.swc_walk.specs.Pass.{Pass, is_visited, is_plain, is_block, is_whole, is_apart, is_declaration, are_unvisited, is_unvisited}
-use Rattle.swc_walk.specs.Walks.{Walks, closed, passes, stands, stepped, plain, exported, imports, block, listed, tidied, Whole, whole, AllWalk, nothing, both}
+use Rattle.swc_walk.specs.Walks.{Walks, closed, opened, passes, stands, stepped, plain, exported, imports, block, listed, tidied, Whole, whole, AllWalk, nothing, both}
 use Rattle.swc_walk.proofs.Walked.{and_left, and_right, none_of}
-use Rattle.swc_kept.specs.Finished.{Does, at_node, at_list, at_both, Finished}
+use Rattle.swc_kept.specs.Finished.{Does, at_front, at_node, at_list, at_both, Finished}
 
 pub block_list : (l : Label) → is_block l ≡ true → is_list l ≡ true
 block_list Block h = refl
@@ -73,6 +73,7 @@ module _ {X : Pass} where
   mutual
     pub leaves : {c : Bool} {a b : Tree} → Walks X c a b → Leaves X.skips (Finished X) (Does X) a b
     leaves (closed s) = finished.closed s
+    leaves (opened s w) = finished.opened (at_front s) (leaves w)
     leaves (passes i (plain {l = l} {ss = ss} {us = us} p ws)) = finished.stands (all_leave ws) (unseen_finished l ss us (plain_no_list l p) i)
     leaves (passes i (exported d ws)) = absurd (true≢false i)
     leaves (passes i (imports u)) = absurd (true≢false i)

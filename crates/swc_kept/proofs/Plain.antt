@@ -1,27 +1,38 @@
 -- A walk by steps that do the same and declare the same keeps what a module or a script does.
-use Rattle.std.proofs.Common.{ℕ, Bool, refl}
-use Rattle.swc_ast.specs.Tree.{Tree, Forest, ε, ◌⊳◌}
+use Rattle.std.proofs.Common.{◌≡◌, ℕ, Bool, false, refl}
+use Rattle.swc_ast.specs.Tree.{Module, Tree, Forest, ε, ◌⊳◌}
 use Rattle.swc_ast.specs.Run.{Same}
 use Rattle.swc_meaning.specs.Exact.{Exact, ListExact}
-use Rattle.swc_meaning.specs.Roles.{Fits, unchanged, SameLists}
+use Rattle.swc_meaning.specs.Names.{Names}
+use Rattle.swc_meaning.specs.Roles.{label, is_item, Fits, unchanged, changed, SameLists}
 use Rattle.swc_meaning.specs.Walks.{no_names, StepsRight}
-use Rattle.swc_meaning.proofs.Laws.{exact_itself, list_exact_itself, same_lists_itself, list_exact_trims}
+use Rattle.swc_meaning.proofs.Laws.{exact_itself, list_exact_itself, same_lists_itself, exact_trims, list_exact_trims}
+use Rattle.swc_meaning.proofs.Imports.{part_imports_none}
+use Rattle.swc_meaning.proofs.Spans.{living_clean, no_dead, none_dead}
 use Rattle.swc_walk.specs.Pass.{Pass}
 use Rattle.swc_walk.specs.Walks.{Whole}
-use Rattle.swc_kept.specs.Meant.{Sifts, sifted, stays_there, Meant, sifts_then, alone}
+use Rattle.swc_kept.specs.Meant.{Sifts, sifted, stays_there, Meant, sifts_then, items_then, alone}
 use Rattle.swc_kept.specs.Plain.{PlainRight, Moves, unmoved, moved, ListMoves, unmoved_list, moved_list, plain_steps}
-use Rattle.swc_kept.proofs.Meant.{plain_same}
+use Rattle.swc_kept.proofs.Meant.{plain_same, unused_idle, unused_declares}
 
 sifts_itself : (G : Tree → Type 0) (ts : Forest) → Sifts G ts ts
 sifts_itself G ε = sifted
 sifts_itself G (t ⊳ ts) = stays_there (sifts_itself G ts)
 
-plain_meant : {X : Pass} {mark : ℕ} → PlainRight X mark → Meant X (plain_steps X)
-plain_meant {X} p = record {
-  node_step = λ t u s. alone (moved s);
-  no_item = p.no_item;
-  list_step = λ l ts us s. sifts_then (sifts_itself (λ t. ⊥) ts) (moved_list l s);
-  items_stay = p.items_stay;
+-- where a node that is no import and no export may stand, none does
+no_item_of : {N : Names} {t u : Tree} → Fits N t u → is_item (label t) ≡ false → is_item (label u) ≡ false
+no_item_of unchanged i = i
+no_item_of {u = u} (changed p q s) i = part_imports_none (label u) q
+
+plain_meant : {X : Pass} {mark : ℕ} → PlainRight X mark → (loads : Bool) → Meant X no_names mark loads (plain_steps X)
+plain_meant {X} {mark} p loads = record {
+  open_step = λ t u s. s;
+  open_no_item = λ t u s. no_item_of (p.open_fits t u s) (p.open_no_item t u s);
+  open_clean = λ t u s k. living_clean (none_dead mark) u (no_dead u);
+  node_step = λ t u s. alone (p.no_item t u s) (no_item_of (p.node_fits t u s) (p.no_item t u s)) (moved s);
+  list_step = λ l ts us i s. sifts_then (sifts_itself (λ t. ⊥) ts) (moved_list l s);
+  items_step = λ ts us s. items_then (sifts_itself _ ts) (moved_list Module s) (p.items_stay ts us s);
+  unused_goes = λ t u. u;
   node_stays = λ t. unmoved;
   list_stays = λ ts. unmoved_list;
   before_stays = λ ts. unmoved_list;
@@ -30,16 +41,16 @@ plain_meant {X} p = record {
 plain_steps_right : {X : Pass} {mark : ℕ} → PlainRight X mark → StepsRight no_names mark (plain_steps X)
 plain_steps_right {X} {mark} p = record {
   firm = λ x. refl;
-  early_trims = λ t u e. elim e [ ];
-  early_fits = λ t u e. elim e [ ];
+  early_trims = λ t u s. exact_trims (p.open_exact t u s);
+  early_fits = p.open_fits;
   node_exact = λ t u f. exact f;
   node_fits = λ t u f. fit f;
   before_trims = λ ts us f. list_exact_trims (before f);
   before_declares = λ ts us f. before_declares f;
   behind_exact = λ ts us f. list f;
   behind_declares = λ ts us f. declares f;
-  goes_idle = λ t e. elim e [ ];
-  goes_declares = λ t e. elim e [ ];
+  goes_idle = λ t u. unused_idle mark u;
+  goes_declares = λ t u. unused_declares u;
   goes_behind_idle = λ t e. elim e [ ];
   goes_behind_declares = λ t e. elim e [ ];
   goes_behind_no_item = λ t e. elim e [ ];
@@ -70,4 +81,4 @@ plain_steps_right {X} {mark} p = record {
     declares {ts} {us} (moved_list l s) = p.list_declares l ts us s
 
 pub right_same : {X : Pass} {mark : ℕ} → PlainRight X mark → (loads : Bool) {c : Bool} {t u : Tree} → Whole X c t u → Same mark loads t u
-right_same p loads w = plain_same (plain_meant p) (plain_steps_right p) loads w
+right_same p loads w = plain_same loads (plain_meant p loads) (plain_steps_right p) w

@@ -16,13 +16,13 @@ use Rattle.swc_static.specs.Free.{has_kind, kind_at}
 use Rattle.swc_static.specs.Walks.{AllLeave}
 use Rattle.swc_static.proofs.Walked.{leaves_walks}
 use Rattle.swc_static.proofs.Static.{walk_resolved, walk_core}
-use Rattle.swc_static.proofs.Lighter.{leaves_weighed, all_leave_weighed, inside_weighed, step_lower}
+use Rattle.swc_static.proofs.Lighter.{leaves_weighed, all_leave_weighed, inside_weighed, step_lower, lower_then}
 use Rattle.swc_static.proofs.Free.{unchanged_free}
 use Rattle.swc_walk.specs.Pass.{Pass}
-use Rattle.swc_walk.specs.Walks.{Walks, closed, passes, stands, stepped, Entered, plain, exported, imports, block, listed, tidied, Whole, whole, AllWalk, nothing, both}
+use Rattle.swc_walk.specs.Walks.{Walks, closed, opened, passes, stands, stepped, Entered, plain, exported, imports, block, listed, tidied, Whole, whole, AllWalk, nothing, both}
 use Rattle.swc_walk.proofs.Walked.{whole_same}
-use Rattle.swc_kept.specs.Finished.{Does, at_node, at_list, at_both, Finished}
-use Rattle.swc_kept.proofs.Finished.{all_leave, whole_leaves, exported_leaves, all_unvisited_leave, block_list, whole_list}
+use Rattle.swc_kept.specs.Finished.{Does, at_front, at_node, at_list, at_both, Finished}
+use Rattle.swc_kept.proofs.Finished.{leaves, all_leave, whole_leaves, exported_leaves, all_unvisited_leave, block_list, whole_list}
 
 pub whole_resolved : {N : Type 0} {P : Name → Type 0} {X : Pass} {mark : ℕ} {c : Bool} {t u : Tree} → ((a b : Tree) → Does X a b → Step N P a b) → ((x : Name) → has_name x (exports_of t) ≡ true → P x) → Whole X c t u → IsResolved mark t → IsResolved mark u
 whole_resolved f p w r = walk_resolved f p (leaves_walks (whole_leaves w)) r
@@ -51,6 +51,7 @@ module _ {N : Type 0} {X : Pass} (settled : (b : Tree) → Finished X b → N �
   mutual
     differs : {c : Bool} {a b : Tree} → Walks X c a b → c ≡ true → b ≡ a → ⊥
     differs (closed s) h e = absurd (false≢true h)
+    differs (opened {t = t} {u = u} s w) h e = omega (arith, ap weight e, lower_then (lowers t u (at_front s)) (leaves_weighed settled lowers (leaves w)))
     differs (passes i w) h e = node_differs w h e
     differs (stands w r) h e = node_differs w h e
     differs (stepped (plain {l = l} {ss = ss} p ws) s) h e = lower_at l ss (all_leave ws) (at_node s) e

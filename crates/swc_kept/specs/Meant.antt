@@ -1,10 +1,14 @@
 -- A pass whose steps are those of a walk that keeps what a program does.
-use Rattle.std.specs.Prelude.{◌≡◌, false, List}
+use Rattle.std.specs.Prelude.{ℕ, ◌≡◌, Bool, false, List}
 use Rattle.swc_ast.specs.declared.Span.{Span}
 use Rattle.swc_ast.specs.declared.VarDeclKind.{VarDeclKind}
-use Rattle.swc_ast.specs.Tree.{Label, VarDecl, Module, Tree, node, Forest, ε, ◌⊳◌}
+use Rattle.swc_ast.specs.Scope.{has_name, specifier_names}
+use Rattle.swc_ast.specs.Tree.{Name, Text, Label, VarDecl, Import, Module, Tree, node, Forest, ε, ◌⊳◌}
+use Rattle.swc_meaning.specs.Names.{Names, Watched}
 use Rattle.swc_meaning.specs.Roles.{label, is_item, module_items}
-use Rattle.swc_meaning.specs.Walks.{Steps}
+use Rattle.swc_meaning.specs.Rewrites.{Specifiers}
+use Rattle.swc_meaning.specs.Walks.{Steps, AllClean}
+use Rattle.swc_static.specs.Together.{is_module}
 use Rattle.swc_walk.specs.Pass.{Pass}
 
 -- some items go
@@ -17,17 +21,37 @@ pub data Sifts (G : Tree → Type 0) : Forest → Forest → Type 0 where
 pub data ListStep (H : Steps) : Forest → Forest → Type 0 where
   sifts_then : {ts us vs : Forest} → Sifts H.GoesBehind ts us → H.Behind us vs → ListStep H ts vs
 
--- a node takes a step, of a declaration of variables once some declarators are gone
-pub data NodeStep (H : Steps) : Tree → Tree → Type 0 where
-  alone : {t u : Tree} → H.Node t u → NodeStep H t u
-  of_declarators : {k : VarDeclKind} {ss : List Span} {ds es : Forest} {u : Tree} → Sifts H.GoesBehind ds es → H.Node (node (VarDecl k) ss es) u → NodeStep H (node (VarDecl k) ss ds) u
+-- an import that binds no name but dropped ones
+pub data Unused (N : Names) : Tree → Type 0 where
+  unused : {src : Text} {ss : List Span} {cs : Forest} → ((x : Name) → Watched N x → has_name x (specifier_names cs) ≡ false) → Unused N (node (Import src) ss cs)
 
-pub record Meant (X : Pass) (H : Steps) : Type 0 where
-  pub node_step : (t u : Tree) → X.steps t u → NodeStep H t u
-  -- imports and exports take no step of their own
-  pub no_item : (t u : Tree) → X.steps t u → is_item (label t) ≡ false
-  pub list_step : (l : Label) (ts us : Forest) → X.tidies l ts us → ListStep H ts us
-  pub items_stay : (ts vs : Forest) → X.tidies Module ts vs → module_items ts ≡ module_items vs
+-- an item of a module that goes: a statement, or where loads don't count an import
+pub data ItemGoes (N : Names) (loads : Bool) (H : Steps) : Tree → Type 0 where
+  statement_goes : {t : Tree} → H.GoesBehind t → ItemGoes N loads H t
+  import_goes : {t : Tree} → loads ≡ false → Unused N t → ItemGoes N loads H t
+
+-- some items of a module go, and then the list takes a step, which leaves imports and exports where they are
+pub data ItemsStep (N : Names) (loads : Bool) (H : Steps) : Forest → Forest → Type 0 where
+  items_then : {ts us vs : Forest} → Sifts (ItemGoes N loads H) ts us → H.Behind us vs → module_items us ≡ module_items vs → ItemsStep N loads H ts vs
+
+-- A node takes a step, of a declaration of variables once some declarators are gone. Imports and exports take none, but that
+-- an import loses specifiers whose names are dropped.
+pub data NodeStep (N : Names) (H : Steps) : Tree → Tree → Type 0 where
+  alone : {t u : Tree} → is_item (label t) ≡ false → is_item (label u) ≡ false → H.Node t u → NodeStep N H t u
+  of_declarators : {k : VarDeclKind} {ss : List Span} {ds es : Forest} {u : Tree} → is_item (label u) ≡ false → Sifts H.GoesBehind ds es → H.Node (node (VarDecl k) ss es) u → NodeStep N H (node (VarDecl k) ss ds) u
+  of_specifiers : {src : Text} {ss rs : List Span} {cs us : Forest} → Specifiers N cs us → NodeStep N H (node (Import src) ss cs) (node (Import src) rs us)
+
+-- The steps of a pass are steps of the walk that keeps what a program does.
+pub record Meant (X : Pass) (N : Names) (mark : ℕ) (loads : Bool) (H : Steps) : Type 0 where
+  pub open_step : (t u : Tree) → X.opens t u → H.Early t u
+  -- what a step in front makes is no import and no export, and asks no more of its names than it may
+  pub open_no_item : (t u : Tree) → X.opens t u → is_item (label u) ≡ false
+  pub open_clean : (t u : Tree) → X.opens t u → AllClean N mark t → AllClean N mark u
+  pub node_step : (t u : Tree) → X.steps t u → NodeStep N H t u
+  pub list_step : (l : Label) (ts us : Forest) → is_module l ≡ false → X.tidies l ts us → ListStep H ts us
+  pub items_step : (ts us : Forest) → X.tidies Module ts us → ItemsStep N loads H ts us
+  -- an import that goes once it is walked could have gone before
+  pub unused_goes : (t : Tree) → Unused N t → H.Goes t
   -- what takes no step
   pub node_stays : (t : Tree) → H.Node t t
   pub list_stays : (ts : Forest) → H.Behind ts ts

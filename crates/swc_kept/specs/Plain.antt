@@ -5,8 +5,13 @@ use Rattle.swc_meaning.specs.Exact.{Exact, ListExact}
 use Rattle.swc_meaning.specs.Roles.{label, is_item, module_items, Fits, SameLists}
 use Rattle.swc_meaning.specs.Walks.{Steps, no_names}
 use Rattle.swc_walk.specs.Pass.{Pass}
+use Rattle.swc_kept.specs.Meant.{Unused}
 
+-- each step of a pass does the same and declares the same
 pub record PlainRight (X : Pass) (mark : ℕ) : Type 0 where
+  pub open_exact : (t u : Tree) → X.opens t u → Exact mark t u
+  pub open_fits : (t u : Tree) → X.opens t u → Fits no_names t u
+  pub open_no_item : (t u : Tree) → X.opens t u → is_item (label t) ≡ false
   pub node_exact : (t u : Tree) → X.steps t u → Exact mark t u
   pub node_fits : (t u : Tree) → X.steps t u → Fits no_names t u
   -- imports and exports take no step of their own
@@ -20,10 +25,11 @@ pub data Moves (R : Tree → Tree → Type 0) (t : Tree) : Tree → Type 0 where
   unmoved : Moves R t t
   moved : {u : Tree} → R t u → Moves R t u
 
+-- the same of a list
 pub data ListMoves (R : Label → Forest → Forest → Type 0) (ts : Forest) : Forest → Type 0 where
   unmoved_list : ListMoves R ts ts
   moved_list : (l : Label) {us : Forest} → R l ts us → ListMoves R ts us
 
 -- the steps of the walk that keeps what a program does
 abbrev pub plain_steps : Pass → Steps
-plain_steps X = record { Early = λ t u. ⊥; Node = Moves X.steps; Before = ListMoves (λ l ts us. ⊥); Behind = ListMoves X.tidies; Goes = λ t. ⊥; GoesBehind = λ t. ⊥ }
+plain_steps X = record { Early = X.opens; Node = Moves X.steps; Before = ListMoves (λ l ts us. ⊥); Behind = ListMoves X.tidies; Goes = Unused no_names; GoesBehind = λ t. ⊥ }

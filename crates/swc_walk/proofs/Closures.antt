@@ -2,10 +2,11 @@
 use Rattle.std.proofs.Common.{Bool}
 use Rattle.swc_ast.specs.Tree.{Label, Tree, Forest}
 use Rattle.swc_walk.specs.Pass.{Pass}
-use Rattle.swc_walk.specs.Walks.{Walks, closed, passes, stands, stepped, Entered, plain, exported, imports, block, ListMade, listed, tidied, Whole, whole, AllWalk, nothing, both}
+use Rattle.swc_walk.specs.Walks.{Walks, closed, opened, passes, stands, stepped, Entered, plain, exported, imports, block, ListMade, listed, tidied, Whole, whole, AllWalk, nothing, both}
 
 -- a pass that does what another does
 pub record Within (X Y : Pass) : Type 0 where
+  pub opens : (t u : Tree) → X.opens t u → Y.opens t u
   pub steps : (t u : Tree) → X.steps t u → Y.steps t u
   pub rests : (t : Tree) → X.rests t → Y.rests t
   pub tidies : (l : Label) (ts us : Forest) → X.tidies l ts us → Y.tidies l ts us
@@ -15,6 +16,7 @@ pub record Within (X Y : Pass) : Type 0 where
 mutual
   pub walks_by : {X Y : Pass} {c : Bool} {a b : Tree} → Within X Y → Walks X c a b → Walks Y c a b
   walks_by h (closed {t = t} s) = closed (h.skips t s)
+  walks_by h (opened {t = t} {u = u} s w) = opened (h.opens t u s) (walks_by h w)
   walks_by h (passes i w) = passes i (entered_by h w)
   walks_by h (stands {b = b} w r) = stands (entered_by h w) (h.rests b r)
   walks_by h (stepped {b = b} {d = d} w s) = stepped (entered_by h w) (h.steps b d s)

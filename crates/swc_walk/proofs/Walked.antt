@@ -9,7 +9,7 @@ use Rattle.swc_ast.specs.Parts.{list_trees, then_all}
 use Rattle.swc_ast.specs.declared.Span.{Span}
 use Rattle.swc_walk.specs.declared.rules.Place.{Place}
 use Rattle.swc_walk.specs.declared.rules.Place.TheVariants as place
-use Rattle.swc_walk.specs.Walks.{Walks, closed, passes, stands, stepped, Entered, plain, exported, imports, block, ListMade, listed, tidied, Whole, whole, AllWalk, nothing, both, Inside, parts, Became, Fits, Placed, Each, none, more}
+use Rattle.swc_walk.specs.Walks.{Walks, closed, opened, passes, stands, stepped, Entered, plain, exported, imports, block, ListMade, listed, tidied, Whole, whole, AllWalk, nothing, both, Inside, parts, Opened, Became, Fits, Placed, Each, none, more}
 use Rattle.swc_walk.specs.Pass.{Pass, is_visited, is_plain, is_unvisited, are_unvisited, is_shallow}
 
 pub or_assoc : (a b c : Bool) → ((a || b) || c) ≡ (a || (b || c))
@@ -78,6 +78,7 @@ entered_at_shallow X f {e} {t} is h = inside_entered (shallow_at X f is h)
 mutual
   pub walks_same : {X : Pass} {c : Bool} {a b : Tree} → Walks X c a b → c ≡ false → b ≡ a
   walks_same (closed s) h = refl
+  walks_same (opened s w) h = absurd (false≢true (sym h))
   walks_same (passes i w) h = entered_same w h
   walks_same (stands w r) h = entered_same w h
   walks_same (stepped w s) h = absurd (false≢true (sym h))
@@ -126,8 +127,19 @@ made_then {X} {a} {b} {e} c false w s = subst (λ k. Walks X k a e) (sym (or_non
 pub placed_then : {X : Pass} {a b e : Tree} (p : Place) (c d : Bool) → Inside X c a b → Became X d b e → (Fits p b → Fits p e) → Placed X p a e (c || d)
 placed_then p c d w s fits = (made_then c d (inside_entered w) s, λ h. fits (fits_inside p w h))
 
-pub placed_closed : {X : Pass} (p : Place) (a : Tree) → X.skips a → Placed X p a a false
-placed_closed {X} p a s = (closed s, λ h. h)
+-- a step in front of a walk, if any
+pub opened_then : {X : Pass} {a b e : Tree} (c d : Bool) → Opened X c a b → Walks X d b e → Walks X (c || d) a e
+opened_then true d s w = opened s w
+opened_then {X} {e = e} false d s w = subst (λ k. Walks X d k e) s w
+
+pub placed_opened : {X : Pass} {a b e : Tree} (p : Place) (c d : Bool) → Opened X c a b → (Fits p a → Fits p b) → Placed X p b e d → Placed X p a e (c || d)
+placed_opened p c d s fits w = (opened_then c d s w.0, λ h. w.1 (fits h))
+
+pub opened_closed : {X : Pass} {a b : Tree} (c : Bool) → Opened X c a b → X.skips b → Walks X c a b
+opened_closed {X} {a} {b} c s k = subst (λ d. Walks X d a b) (or_none c) (opened_then c false s (closed k))
+
+pub placed_closed : {X : Pass} {a b : Tree} (p : Place) (c : Bool) → Opened X c a b → (Fits p a → Fits p b) → X.skips b → Placed X p a b c
+placed_closed p c s fits k = (opened_closed c s k, fits)
 
 pub one_child : {X : Pass} {c : Bool} {t u : Tree} → Walks X c t u → AllWalk X c (t ⊳ ε) (u ⊳ ε)
 one_child {X} {c} {t} {u} w = subst (λ k. AllWalk X k (t ⊳ ε) (u ⊳ ε)) (or_none c) (both w nothing)

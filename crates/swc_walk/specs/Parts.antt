@@ -22,6 +22,7 @@ use Rattle.swc_walk.specs.declared.rules.Place.TheVariants as place
 use Rattle.swc_walk.specs.Walks.{Walks, AllWalk, Inside, is_member, is_name, is_part_of_call}
 use Rattle.swc_walk.specs.Pass.{Pass}
 
+-- the same four of trees: a member, a name, a part of a call, the name `eval`
 abbrev pub member_tree_is : Tree → Bool
 member_tree_is (node l ss ts) = is_member l
 
@@ -35,6 +36,7 @@ abbrev pub eval_tree_is : Tree → Bool
 eval_tree_is (node (tree.Read x) ss ts) = is_eval x
 eval_tree_is t = false
 
+-- the operator `typeof`
 abbrev pub is_typeof : UnaryOp → Bool
 is_typeof op.TypeOf = true
 is_typeof o = false

@@ -1,5 +1,5 @@
--- What a walk makes of a tree: its children are walked, then the list that they are, and then a step is taken at the node,
--- or it stands, as no rule fits it. The truth value says whether a step was taken anywhere.
+-- What a walk makes of a tree: a step in front, if any, then its children are walked, then the list that they are, and then a
+-- step is taken at the node, or it stands, as no rule fits it. The truth value says whether a step was taken anywhere.
 use Rattle.std.specs.Prelude.{Bool, true, false, ◌||◌, ◌≡◌, IsFalse, List, [], ◌∷◌}
 use Rattle.swc_ast.specs.Tree.{Text, Label, Dot, Index, Read, Import, ExportDecl, Tree, node, Forest, ε, ◌⊳◌}
 use Rattle.swc_ast.specs.Expressions.{is_eval}
@@ -12,6 +12,8 @@ mutual
   pub data Walks (X : Pass) : Bool → Tree → Tree → Type 0 where
     -- a node that is not entered
     closed : {t : Tree} → X.skips t → Walks X false t t
+    -- a node that took a step before it was walked
+    opened : {c : Bool} {t u v : Tree} → X.opens t u → Walks X c u v → Walks X true t v
     -- a node that no rule sees
     passes : {c : Bool} {l : Label} {ss : List Span} {t : Tree} {us : Forest} → is_visited l ≡ false → Entered X c t (node l ss us) → Walks X c t (node l ss us)
     -- a node that no rule fits
@@ -38,6 +40,7 @@ mutual
 pub data Whole (X : Pass) : Bool → Tree → Tree → Type 0 where
   whole : {c : Bool} {l : Label} {ss : List Span} {ts us : Forest} → is_whole l ≡ true → ListMade X l c ts us → Whole X c (node l ss ts) (node l ss us)
 
+-- a walk of a module or a script, and whether it changed it
 abbrev pub WholeMade : Pass → Tree → Tree → Bool → Type 0
 WholeMade X a b c = Whole X c a b
 
@@ -48,6 +51,11 @@ Made X a b c = Walks X c a b
 -- the same of a node that was entered, and of which no rule was asked yet
 abbrev pub Ready : Pass → Tree → Tree → Bool → Type 0
 Ready X a b c = Entered X c a b
+
+-- what a rule did in front of a node's children: a step, or nothing
+abbrev pub Opened : Pass → Bool → Tree → Tree → Type 0
+Opened X true a b = X.opens a b
+Opened X false a b = b ≡ a
 
 -- what a rule did: a step, or nothing
 abbrev pub Became : Pass → Bool → Tree → Tree → Type 0
@@ -65,11 +73,13 @@ is_part_of_call Index = true
 is_part_of_call (Read x) = is_eval x
 is_part_of_call l = false
 
+-- a member
 abbrev pub is_member : Label → Bool
 is_member (Dot k) = true
 is_member Index = true
 is_member l = false
 
+-- a name
 abbrev pub is_name : Label → Bool
 is_name (Read x) = true
 is_name l = false

@@ -1,9 +1,11 @@
-//! What a pass does at a node, once the node's children are walked.
-ghost use Rattle.std.specs.Prelude.{◌≡◌, IfOk, IsFalse};
+//! What a pass does at a node: before the node's children are walked, and behind that.
+ghost use Rattle.std.specs.Prelude.{◌≡◌, ◌≤◌, IfOk, IsFalse};
 ghost use Rattle.swc_ast.specs.Modules.{item_tree};
 ghost use Rattle.swc_ast.specs.Views.{expr_tree, stmt_tree};
+ghost use Rattle.swc_ast.specs.declared.expressions.Expr.{size-Expr};
+ghost use Rattle.swc_ast.specs.declared.statements.Stmt.{size-Stmt};
 ghost use Rattle.swc_walk.specs.Pass.{Pass};
-ghost use Rattle.swc_walk.specs.Walks.{Became, Fits};
+ghost use Rattle.swc_walk.specs.Walks.{Became, Fits, Opened};
 ghost use Rattle.swc_walk.specs.Lists.{ItemsBecame, ListBecame};
 
 use std::alloc::AllocError;
@@ -33,10 +35,29 @@ pub enum ListPlace {
     Script,
 }
 
-/// The rules of a pass. Each method gets a node whose children are walked, may change it in place,
-/// and says whether it did: if it did not, no rule fits the node.
+/// The rules of a pass. Each method gets a node, may change it in place, and says whether it did. `enter_expr` and
+/// `enter_stmt` come before the node's children are walked, the others behind that: where one of these changes nothing,
+/// no rule fits the node.
 pub trait Rules {
     ghost pass: { Self → Pass };
+
+    /// A step at an expression in front of its children, as `x = r` to `r` where nothing reads `x`. What it makes is no
+    /// deeper, and is walked in the expression's place.
+    fn enter_expr(&self, _place: Place, _e: &mut Expr) -> Result<bool, AllocError>
+        ensures opens { IfOk result (λ changed. Opened (pass self.now) changed (expr_tree _e.old) (expr_tree _e.new)) }
+        ensures fits { IfOk result (λ changed. Fits _place (expr_tree _e.old) → Fits _place (expr_tree _e.new)) }
+        ensures no_deeper { IfOk result (λ changed. size-Expr _e.new ≤ size-Expr _e.old) }
+    {
+        Ok(false)
+    }
+
+    /// The same at a statement.
+    fn enter_stmt(&self, _s: &mut Stmt) -> Result<bool, AllocError>
+        ensures opens { IfOk result (λ changed. Opened (pass self.now) changed (stmt_tree _s.old) (stmt_tree _s.new)) }
+        ensures no_deeper { IfOk result (λ changed. size-Stmt _s.new ≤ size-Stmt _s.old) }
+    {
+        Ok(false)
+    }
 
     /// Whether the walk goes into an expression: one that it doesn't enter stays as it is.
     fn enters_expr(&self, _e: &Expr) -> bool
@@ -52,10 +73,12 @@ pub trait Rules {
         true
     }
 
+    /// An expression whose children are walked.
     fn leave_expr(&self, place: Place, e: &mut Expr) -> Result<bool, AllocError>
         ensures steps { IfOk result (λ changed. Became (pass self.now) changed (expr_tree e.old) (expr_tree e.new)) }
         ensures fits { IfOk result (λ changed. Fits place (expr_tree e.old) → Fits place (expr_tree e.new)) };
 
+    /// A statement whose children are walked.
     fn leave_stmt(&self, s: &mut Stmt) -> Result<bool, AllocError>
         ensures { IfOk result (λ changed. Became (pass self.now) changed (stmt_tree s.old) (stmt_tree s.new)) };
 

@@ -15,17 +15,18 @@ use swc_ast::{
     MethodProp, Pat, Prop, PropName, PropOrSpread, UnaryOp,
 };
 
-/// Walks an expression: its parts, and then the expression.
+/// Walks an expression: the rules in front of its parts, its parts, and then the rules at the expression.
 #[cycle(walk)]
 pub fn walk_expr<R: Rules>(rules: &R, place: Place, e: &mut Expr) -> Result<bool, AllocError>
     ensures { IfOk result (λ c. Placed (R.pass rules.now) place (expr_tree e.old) (expr_tree e.new) c) }
 {
+    let opened = rules.enter_expr(place, e)?;
     if !rules.enters_expr(e) {
-        return Ok(false);
+        return Ok(opened);
     }
     let inside = walk_parts(rules, e)?;
     let left = rules.leave_expr(place, e)?;
-    Ok(inside | left)
+    Ok(opened | (inside | left))
 }
 
 #[cycle(walk)]

@@ -57,17 +57,18 @@ pub fn walk_stmts<R: Rules>(rules: &R, ss: &mut Vec<Stmt>) -> Result<bool, Alloc
     Ok(changed)
 }
 
-/// Walks a statement: its parts, and then the statement.
+/// Walks a statement: the rules in front of its parts, its parts, and then the rules at the statement.
 #[cycle(walk)]
 pub fn walk_stmt<R: Rules>(rules: &R, s: &mut Stmt) -> Result<bool, AllocError>
     ensures { IfOk result (λ c. Made (R.pass rules.now) (stmt_tree s.old) (stmt_tree s.new) c) }
 {
+    let opened = rules.enter_stmt(s)?;
     if !rules.enters_stmt(s) {
-        return Ok(false);
+        return Ok(opened);
     }
     let inside = walk_stmt_parts(rules, s)?;
     let left = rules.leave_stmt(s)?;
-    Ok(inside | left)
+    Ok(opened | (inside | left))
 }
 
 #[cycle(walk)]

@@ -2,22 +2,22 @@ use Rattle.std.proofs.Common.{rules, refl, sym, ap, ◌∙◌, subst, false}
 use Rattle.swc_ast.proofs.Equations.{expr_tree-This, expr_tree-Ident, expr_tree-Lit, expr_tree-Invalid, prop_tree-Shorthand, stmt_tree-Empty, stmt_tree-Break, stmt_tree-Continue, function_trees-is, arrow_tree-is, if_tree-is, case_trees-is, loop_trees-is, for_tree-is}
 use Rattle.swc_walk.proofs.FunctionArms.{object_arm, fn_arm, arrow_arm, spread_arm, prop_arm, key_value_arm, method_arm, method_rolled, computed_key, assign_param, function_made, arrow_made, arrow_block, arrow_expr}
 use Rattle.swc_walk.proofs.StatementArms.{option_some, option_none, list_then, block_arm, return_arm, labeled_arm, throw_arm, expr_stmt_arm, if_arm, switch_arm, for_arm, decl_arm, while_arm, do_while_arm, loop_made, try_arm, handler_made, no_handler, if_made, for_made, switch_rolled, case_made, declarator_made, var_made, fn_decl_arm, var_arm, init_var, init_expr}
-use Rattle.swc_walk.proofs.Walked.{walks_at, made_then, placed_then, placed_closed, shallow_at, entered_at_shallow, unvisited_at, each_all, each_more}
+use Rattle.swc_walk.proofs.Walked.{walks_at, made_then, opened_then, opened_closed, placed_then, placed_opened, placed_closed, shallow_at, entered_at_shallow, unvisited_at, each_all, each_more}
 use Rattle.swc_walk.proofs.Arms.{bin_arm, cond_arm, unary_arm, update_arm, assign_arm, member_arm, call_arm, new_arm, seq_arm, tpl_arm, array_arm, member_parts}
 use Rattle.swc_walk.proofs.Targets.{shallow_lit, member_callee_at, plain_callee, kept_callee, plain_operand, kept_operand, member_target, name_target}
 use Rattle.swc_ast.specs.declared.expressions.AssignTarget.TheVariants as target
 use Rattle.swc_ast.specs.Statements.{option_block_tree, option_init_tree}
 use Rattle.swc_ast.specs.Expressions.{key_tree, param_tree}
 use Rattle.swc_ast.specs.Views.{expr_tree, stmt_tree, prop_tree}
-use Rattle.swc_walk.specs.Walks.{none, passes, closed, block}
+use Rattle.swc_walk.specs.Walks.{none, passes, block}
 use Rattle.swc_walk.specs.Parts.{TargetWalks}
 use Rattle.swc_walk.proofs.walk.+walk.Goals as goal
 
 pub expressions::walk_expr-returns-then-not-enters_expr : goal.expressions::walk_expr-returns-then-not-enters_expr
-expressions::walk_expr-returns-then-not-enters_expr g t c = placed_closed _ _ (c.if-not-enters_expr.ensures refl)
+expressions::walk_expr-returns-then-not-enters_expr g t c = placed_closed _ _ c.in_ok-opened.ensures.opens c.in_ok-opened.ensures.fits (c.if-not-enters_expr.ensures refl)
 
 pub expressions::walk_expr-returns : goal.expressions::walk_expr-returns
-expressions::walk_expr-returns g t c = placed_then _ _ _ c.in_ok-inside.ensures c.in_ok-left.ensures.steps c.in_ok-left.ensures.fits
+expressions::walk_expr-returns g t c = placed_opened _ _ _ c.in_ok-opened.ensures.opens c.in_ok-opened.ensures.fits (placed_then _ _ _ c.in_ok-inside.ensures c.in_ok-left.ensures.steps c.in_ok-left.ensures.fits)
 
 pub expressions::walk_parts-returns-in-This : goal.expressions::walk_parts-returns-in-This
 expressions::walk_parts-returns-in-This g t c = shallow_at _ expr_tree (ap expr_tree c.in-This.is ∙ expr_tree-This _) refl
@@ -179,10 +179,10 @@ pub statements::walk_list-returns : goal.statements::walk_list-returns
 statements::walk_list-returns g t c = list_then _ _ _ _ _ _ c.in_ok-inside.ensures c.in_ok-left.ensures
 
 pub statements::walk_stmt-returns-then-not-enters_stmt : goal.statements::walk_stmt-returns-then-not-enters_stmt
-statements::walk_stmt-returns-then-not-enters_stmt g t c = closed (c.if-not-enters_stmt.ensures refl)
+statements::walk_stmt-returns-then-not-enters_stmt g t c = opened_closed _ c.in_ok-opened.ensures.opens (c.if-not-enters_stmt.ensures refl)
 
 pub statements::walk_stmt-returns : goal.statements::walk_stmt-returns
-statements::walk_stmt-returns g t c = made_then _ _ c.in_ok-inside.ensures c.in_ok-left.ensures
+statements::walk_stmt-returns g t c = opened_then _ _ c.in_ok-opened.ensures.opens (made_then _ _ c.in_ok-inside.ensures c.in_ok-left.ensures)
 
 pub statements::walk_stmt_parts-returns-in_ok-made-in-Block : goal.statements::walk_stmt_parts-returns-in_ok-made-in-Block
 statements::walk_stmt_parts-returns-in_ok-made-in-Block g t c = block_arm c.walk_block.new.n c.in-Block.is c.in-Block.n-is (search rules) c.in_ok-made-in-Block.ensures
