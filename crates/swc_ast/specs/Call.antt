@@ -5,14 +5,17 @@ use Rattle.swc_ast.specs.Value.{Env, Value, Undefined, Function, Values, ∅, �
 use Rattle.swc_ast.specs.Scope.{has_name, found, vars_all, declared, list_binds, param_names, body_declares}
 use Rattle.swc_ast.specs.Meaning.{◌>>=◌, gives, leaves, Caller, Scope, in_scope, cell_of_declared, run_all, at_return, is_param, initialise}
 
+-- the first argument, or undefined where there is none
 abbrev pub first_value : Values → Value
 first_value ∅ = Undefined
 first_value (v ▹ vs) = v
 
+-- the arguments behind the first
 abbrev pub rest_values : Values → Values
 rest_values ∅ = ∅
 rest_values (v ▹ vs) = vs
 
+-- whether a default is taken (ECMA-262, 10.2.11: an argument that is undefined)
 abbrev pub is_undefined : Value → Bool
 is_undefined Undefined = true
 is_undefined _ = false
@@ -22,6 +25,7 @@ abbrev pub param_value : List Meaning → Value → Meaning
 param_value [] v c = gives v
 param_value (m ∷ ms) v c = if is_undefined v then m c else gives v
 
+-- the cell of a parameter before its value is bound
 abbrev pub unset : Option Cell
 unset = Some (record { writable = true; held = None })
 
@@ -34,6 +38,7 @@ var_cell (Some c) = Some c
 abbrev pub body_cells : Forest → Value → Env → Scope
 body_cells body this e x = var_cell (cell_of_declared e this (found x (declared body)))
 
+-- the statements of a body
 abbrev pub statements_of : Tree → Forest
 statements_of (node Body ss ts) = ts
 statements_of _ = ε
@@ -42,9 +47,11 @@ statements_of _ = ε
 abbrev pub body_binds : List Name → Forest → Name → Bool
 body_binds params body x = not (has_name x params) && body_declares body x
 
+-- the cell of a function expression's own name, which can't be written (15.2.5)
 abbrev pub own_name_cell : Value → Scope
 own_name_cell f x = Some (record { writable = false; held = Some f })
 
+-- a context in an environment, with a `this` and no labels
 abbrev pub in_env : Env → Value → Context
 in_env e this = record { env = e; this = this; labels = [] }
 
@@ -52,14 +59,17 @@ in_env e this = record { env = e; this = this; labels = [] }
 abbrev pub Evaluator : Type 0
 Evaluator = Caller → Tree → Meaning
 
+-- what each tree of a list does
 abbrev pub each_of : (Tree → Meaning) → Forest → List Meaning
 each_of does ε = []
 each_of does (t ⊳ ts) = does t ∷ each_of does ts
 
+-- gives one parameter its value, and goes on (8.6.2, BindingInitialization)
 abbrev pub bind_param : Label → Meaning → (Context → Run Value) → Context → Run Value
 bind_param (Param x) value next c = value c >>= λ v. initialise x v c >>= λ w. next c
 bind_param _ value next c = leaves
 
+-- the children of a method behind its key
 abbrev pub behind_key : Forest → Forest
 behind_key ε = ε
 behind_key (k ⊳ ts) = ts
@@ -75,16 +85,19 @@ module _ (does : Tree → Meaning) where
   run_body (node Body ss ts) c = λ s. at_return (run_all (each_of does ts) c s)
   run_body t c = does t c
 
+  -- FunctionDeclarationInstantiation (10.2.11): parameters, then the body in a scope of its own
   unfoldable pub run_function : Forest → Tree → Values → Meaning
   run_function params body args =
       in_scope (λ x. has_name x (param_names params)) (λ e x. unset) (λ c.
       bind_params params args c >>= λ v.
       in_scope (body_binds (param_names params) (statements_of body)) (body_cells (statements_of body) c.this) (run_body body) c)
 
+  -- a function by its parameters and its body
   abbrev pub run_parts : Tree → Tree → Values → Meaning
   run_parts (node Params ss ps) b args = run_function ps b args
   run_parts _ b args = λ c. leaves
 
+  -- a function by the children of its node
   abbrev pub run_children : Forest → Values → Meaning
   run_children (p ⊳ b ⊳ ε) args = run_parts p b args
   run_children _ args = λ c. leaves
@@ -98,6 +111,7 @@ module _ (does : Tree → Meaning) where
   invoke (node (ExportDefaultFn o) ss cs) e outer this args = run_children cs args (in_env e this)
   invoke _ e outer this args = leaves
 
+  -- [[Call]] of a function of the program (10.2.1); any other value is none
   abbrev pub call_function : Caller
   call_function (Function f e outer) this args = invoke f e outer this args
   call_function _ this args = leaves
