@@ -72,7 +72,6 @@ impl<'a> Parser<'a> {
     }
 
     /// The function of a default export, whose name may be missing.
-    #[cycle(parser)]
     pub(crate) fn default_function(&mut self, room: u32) -> Result<FnExpr, Fault> {
         let start = self.start();
         self.function_word()?;
