@@ -1,5 +1,5 @@
 //! What a pass is.
-ghost use Rattle.std.specs.Prelude.{◌≡◌, Bool, true, false, IfOk, IfErr, OnErr};
+ghost use Rattle.std.specs.Prelude.{◌≡◌, ℕ, Bool, true, false, IfOk, IfErr, OnErr};
 ghost use Rattle.swc_ast.specs.Modules.{module_tree, script_tree};
 ghost use Rattle.swc_ast.specs.declared.errors.PassError.TheVariants.{OutOfMemory};
 ghost use Rattle.swc_pass.specs.Pass.{PassSpec, IsLawful, TellsChange};
@@ -11,6 +11,12 @@ use swc_ast::{Mark, Module, PassError, Script};
 pub trait Repeated {
     ghost is_changed: { Self → Bool };
 
+    /// How many rounds the last run had, where it runs again and again.
+    ghost rounds_run: { Self → ℕ } = { λ _. 0 };
+
+    /// Whether a round of the last run changed nothing, where it runs again and again.
+    ghost is_reached: { Self → Bool } = { λ _. false };
+
     /// What a reset may make of it.
     ghost resets_to: { Self → Self → Type 0 };
 
@@ -21,7 +27,9 @@ pub trait Repeated {
     /// As before the first run.
     fn reset(&mut self)
         ensures kept { resets_to self.old self.new }
-        ensures changed { is_changed self.new ≡ false };
+        ensures changed { is_changed self.new ≡ false }
+        ensures reached { is_reached self.new ≡ false }
+        ensures rounds { rounds_run self.new ≡ 0 };
 }
 
 /// A pass that has a name.
@@ -52,7 +60,7 @@ pub trait Pass: Repeated {
         ensures settings { settings self.new ≡ settings self.old }
         ensures answer { IfOk result (λ r. (spec (settings self.old)).answers (module_tree «module») (module_tree r)) }
         ensures changed { IfOk result (λ r. TellsChange (Self.is_changed self.new) (module_tree «module») (module_tree r)) }
-        ensures refused { OnErr result (Self.is_changed self.new ≡ false) }
+        ensures refused { OnErr result ((Self.is_changed self.new ≡ false) × (Self.is_reached self.new ≡ false) × (Self.rounds_run self.new ≡ 0)) }
         ensures memory { IfErr result (λ e. e ≡ OutOfMemory) };
 
     /// Rewrites a script in place. It refuses where memory runs out; the pass may run again then.
@@ -60,7 +68,7 @@ pub trait Pass: Repeated {
         ensures settings { settings self.new ≡ settings self.old }
         ensures answer { IfOk result (λ r. (spec (settings self.old)).answers (script_tree script) (script_tree r)) }
         ensures changed { IfOk result (λ r. TellsChange (Self.is_changed self.new) (script_tree script) (script_tree r)) }
-        ensures refused { OnErr result (Self.is_changed self.new ≡ false) }
+        ensures refused { OnErr result ((Self.is_changed self.new ≡ false) × (Self.is_reached self.new ≡ false) × (Self.rounds_run self.new ≡ 0)) }
         ensures memory { IfErr result (λ e. e ≡ OutOfMemory) };
 
     /// What the pass makes of a copy of a module. It refuses where memory runs out; the pass may run again then.
@@ -68,7 +76,7 @@ pub trait Pass: Repeated {
         ensures settings { settings self.new ≡ settings self.old }
         ensures answer { IfOk result (λ r. (spec (settings self.old)).answers (module_tree «module».now) (module_tree r)) }
         ensures changed { IfOk result (λ r. TellsChange (Self.is_changed self.new) (module_tree «module».now) (module_tree r)) }
-        ensures refused { OnErr result (Self.is_changed self.new ≡ false) }
+        ensures refused { OnErr result ((Self.is_changed self.new ≡ false) × (Self.is_reached self.new ≡ false) × (Self.rounds_run self.new ≡ 0)) }
         ensures memory { IfErr result (λ e. e ≡ OutOfMemory) }
     {
         self.reset();
@@ -81,7 +89,7 @@ pub trait Pass: Repeated {
         ensures settings { settings self.new ≡ settings self.old }
         ensures answer { IfOk result (λ r. (spec (settings self.old)).answers (script_tree script.now) (script_tree r)) }
         ensures changed { IfOk result (λ r. TellsChange (Self.is_changed self.new) (script_tree script.now) (script_tree r)) }
-        ensures refused { OnErr result (Self.is_changed self.new ≡ false) }
+        ensures refused { OnErr result ((Self.is_changed self.new ≡ false) × (Self.is_reached self.new ≡ false) × (Self.rounds_run self.new ≡ 0)) }
         ensures memory { IfErr result (λ e. e ≡ OutOfMemory) }
     {
         self.reset();
