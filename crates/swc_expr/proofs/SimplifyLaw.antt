@@ -30,7 +30,7 @@ use Rattle.static_expr.proofs.Folds.{fold_step}
 use Rattle.swc_walk.specs.Pass.{is_visited}
 use Rattle.swc_walk.specs.Walks.{Whole}
 use Rattle.swc_walk.proofs.Walked.{whole_same}
-use Rattle.swc_kept.specs.Finished.{Does, at_node, at_list, at_both, Finished}
+use Rattle.swc_kept.specs.Finished.{Does, at_front, at_node, at_list, at_both, Finished}
 use Rattle.swc_kept.specs.Plain.{PlainRight}
 use Rattle.swc_kept.proofs.Finished.{whole_leaves}
 use Rattle.swc_kept.proofs.Plain.{right_same}
@@ -67,6 +67,9 @@ folds_no_item t u joins = refl
 
 simplify_right : (mark : ℕ) → PlainRight simplify_pass mark
 simplify_right mark = record {
+  open_exact = λ t u s. absurd s;
+  open_fits = λ t u s. absurd s;
+  open_no_item = λ t u s. absurd s;
   node_exact = folds_exact mark;
   node_fits = folds_fit;
   no_item = folds_no_item;
@@ -86,6 +89,7 @@ folds_owe (joins {s = s} {t = t} {ss = ss} {rs = rs} {ts = ts}) =
     fold_step 0 _ _ (expr.constant {l = Binary Add} {ss = ss} {cs = node (StrLit s) rs ε ⊳ node (StrLit t) ts ε ⊳ ε} (StrLit (s ++ t)) ss rs ε refl (expr.text (s ++ t)) (record { parts = ε; drawn = more_drawn nothing_of (more_drawn nothing_of none_drawn); built = over_none; no_heavier = omega arith }))
 
 owes : {P : Name → Type 0} (t u : Tree) → Does simplify_pass t u → Step ⊥ P t u
+owes t u (at_front s) = absurd s
 owes t u (at_node s) = folds_owe s
 owes t u (at_list e d) = absurd d
 owes t u (at_both e d s) = absurd d

@@ -43,4 +43,4 @@ Folded None t = Rests t
 
 -- Lists of statements stay, and the operand of `delete` isn't entered.
 abbrev pub simplify_pass : Pass
-simplify_pass = record { steps = Folds; rests = Rests; tidies = λ l ts us. ⊥; tidy = λ l ts. Unit {0}; skips = λ t. is_delete (label_of t) ≡ true }
+simplify_pass = record { opens = λ t u. ⊥; steps = Folds; rests = Rests; tidies = λ l ts us. ⊥; tidy = λ l ts. Unit {0}; skips = λ t. is_delete (label_of t) ≡ true }
