@@ -1,7 +1,8 @@
 //! Gives each name of a tree its context. Names are met in the order of the text.
 use swc_ast::{
-    ArrowExpr, AssignTarget, BlockStmtOrExpr, CatchClause, Decl, Expr, Function, Ident, MemberProp,
-    Pat, Prop, PropName, PropOrSpread, Stmt, SwitchCase, SyntaxContext, TryStmt, VarDeclOrExpr,
+    ArrowExpr, AssignTarget, BlockStmtOrExpr, CatchClause, Decl, Expr, Function, Ident,
+    ImportSpecifier, MemberProp, ModuleDecl, ModuleItem, Pat, Prop, PropName, PropOrSpread, Stmt,
+    SwitchCase, SyntaxContext, TryStmt, VarDeclOrExpr,
 };
 
 /// The contexts that are still to be given.
@@ -283,6 +284,38 @@ impl<'a> Contexts<'a> {
                     }
                 }
             }
+        }
+    }
+
+    pub(crate) fn module_item(&mut self, item: &mut ModuleItem) {
+        match item {
+            ModuleItem::Stmt(stmt) => self.stmt(stmt),
+            ModuleItem::ModuleDecl(decl) => self.module_decl(decl),
+        }
+    }
+
+    fn module_decl(&mut self, decl: &mut ModuleDecl) {
+        match decl {
+            ModuleDecl::Import(node) => {
+                for i in 0..node.specifiers.len() {
+                    match &mut node.specifiers[i] {
+                        ImportSpecifier::Named(specifier) => self.name(&mut specifier.local),
+                        ImportSpecifier::Default(specifier) => self.name(&mut specifier.local),
+                        ImportSpecifier::Namespace(specifier) => self.name(&mut specifier.local),
+                    }
+                }
+            }
+            ModuleDecl::ExportDecl(node) => self.decl(&mut node.decl),
+            ModuleDecl::ExportNamed(node) => {
+                for i in 0..node.specifiers.len() {
+                    self.name(&mut node.specifiers[i].orig);
+                }
+            }
+            ModuleDecl::ExportDefaultDecl(node) => {
+                self.optional(&mut node.decl.ident);
+                self.function(&mut node.decl.function);
+            }
+            ModuleDecl::ExportDefaultExpr(node) => self.expr(&mut node.expr),
         }
     }
 }

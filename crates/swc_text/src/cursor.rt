@@ -1,14 +1,18 @@
 //! A parser's place among the tokens.
 ghost use Rattle.std.specs.Prelude.{◌≡◌, ◌+◌, IfOk};
 
-use crate::error::{OutOfCore, ReadError};
+use crate::exports::Exports;
 use crate::scopes::Scopes;
-use crate::token::{Kind, Token};
+use crate::targets::Targets;
 use std::alloc::Global;
-use swc_ast::{Ident, IdentName, Span, SyntaxContext};
+use swc_ast::Span;
+use swc_lexer::{Construct, Fault, Kind, Token};
 
-/// How many expressions and statements may stand inside one another.
-pub(crate) const MOST_LEVELS: u32 = 1000;
+/// How many expressions and statements may stand inside one another, the innermost among them.
+const MOST_LEVELS: u32 = 1000;
+
+/// How deep the parser's functions may call one another: a level and its parentheses take two.
+pub(crate) const ROOM: u32 = 2 * MOST_LEVELS;
 
 /// What reads a text's tokens from left to right.
 #[derive(Drop)]
@@ -17,7 +21,13 @@ pub(crate) struct Parser<'a> {
     pub(crate) text: &'a str,
     pub(crate) tokens: &'a [Token],
     pub(crate) place: usize,
+    /// the place of an `in` that the head of a `for` may not have
+    pub(crate) refused_in: usize,
+    /// whether the text has `?.`
+    pub(crate) has_chains: bool,
     pub(crate) scopes: Scopes<'a>,
+    pub(crate) targets: Targets<'a>,
+    pub(crate) exports: Exports<'a>,
 }
 
 /// A node, how many levels of expressions and statements it has, and whether it stood in parentheses.
@@ -30,28 +40,51 @@ pub(crate) struct Nested<T> {
 
 /// One level less.
 #[inline(always)]
-pub(crate) fn inside(room: u32) -> Result<u32, ReadError>
+pub(crate) fn inside(room: u32) -> Result<u32, Fault>
     ensures { IfOk result (λ r. r + 1 ≡ room) }
 {
     if room == 0 {
-        return Err(ReadError::TooDeep);
+        return Err(Fault::TooDeep);
     }
     Ok(room - 1)
 }
 
-/// A node round parts that have so many levels.
-pub(crate) fn nest<T: Drop>(node: T, levels: u32) -> Result<Nested<T>, ReadError> {
+/// An expression or a statement round parts that have so many levels.
+pub(crate) fn nest<T: Drop>(node: T, levels: u32) -> Result<Nested<T>, Fault> {
     if levels >= MOST_LEVELS {
-        return Err(ReadError::TooDeep);
+        return Err(Fault::TooDeep);
     }
-    Ok(Nested {
+    Ok(part(node, levels + 1))
+}
+
+/// A part that is itself no expression and no statement.
+pub(crate) fn part<T>(node: T, levels: u32) -> Nested<T> {
+    Nested {
         node,
-        levels: levels + 1,
+        levels,
         wrapped: false,
-    })
+    }
 }
 
 impl<'a> Parser<'a> {
+    pub(crate) fn new(alloc: Global, text: &'a str, tokens: &'a [Token]) -> Parser<'a> {
+        let mut has_chains = false;
+        for token in tokens {
+            has_chains = has_chains || token.kind as u8 == Kind::OptionalDot as u8;
+        }
+        Parser {
+            alloc,
+            text,
+            tokens,
+            place: 0,
+            refused_in: usize::MAX,
+            has_chains,
+            scopes: Scopes::new(alloc),
+            targets: Targets::new(alloc),
+            exports: Exports::new(alloc),
+        }
+    }
+
     #[inline(always)]
     pub(crate) fn token_at(&self, place: usize) -> Token {
         match self.tokens.get(place) {
@@ -76,10 +109,16 @@ impl<'a> Parser<'a> {
         self.token().kind
     }
 
+    /// The token behind this one.
+    #[inline(always)]
+    pub(crate) fn next(&self) -> Token {
+        self.token_at(self.place.saturating_add(1))
+    }
+
     /// What the token behind this one is.
     #[inline(always)]
     pub(crate) fn next_kind(&self) -> Kind {
-        self.token_at(self.place.saturating_add(1)).kind
+        self.next().kind
     }
 
     #[inline(always)]
@@ -124,7 +163,7 @@ impl<'a> Parser<'a> {
     }
 
     #[inline(always)]
-    pub(crate) fn expect(&mut self, kind: Kind) -> Result<(), ReadError> {
+    pub(crate) fn expect(&mut self, kind: Kind) -> Result<(), Fault> {
         if self.take(kind) {
             Ok(())
         } else {
@@ -132,12 +171,12 @@ impl<'a> Parser<'a> {
         }
     }
 
-    pub(crate) fn refuse(&self) -> ReadError {
-        ReadError::Syntax { at: self.start() }
+    pub(crate) fn refuse(&self) -> Fault {
+        Fault::Syntax { at: self.start() }
     }
 
-    pub(crate) fn leave_out(&self, what: OutOfCore) -> ReadError {
-        ReadError::OutOfCore {
+    pub(crate) fn leave_out(&self, what: Construct) -> Fault {
+        Fault::OutOfCore {
             at: self.start(),
             what,
         }
@@ -151,44 +190,15 @@ impl<'a> Parser<'a> {
             .unwrap_or("")
     }
 
-    /// Whether the parenthesis here is closed before `=>`.
-    #[inline(always)]
-    pub(crate) fn is_at_arrow(&self) -> bool {
-        let close = self.token().closed_by as usize;
-        let behind = self.token_at(close.saturating_add(1));
-        behind.kind as u8 == Kind::Arrow as u8
-    }
-
-    /// A name, which is passed.
-    pub(crate) fn ident(&mut self) -> Result<Ident, ReadError> {
+    /// The end of a statement: a semicolon, or where one may be missing (ECMA-262, 12.10).
+    pub(crate) fn semicolon(&mut self) -> Result<(), Fault> {
         let token = self.token();
-        if !self.take(Kind::Name) {
-            return Err(self.refuse());
+        if self.take(Kind::Semicolon) {
+            return Ok(());
         }
-        let text = self.text_of(token);
-        self.scopes.mention(text)?;
-        Ok(Ident {
-            span: self.span_from(token.start),
-            sym: String::from_str(self.alloc, text)?,
-            ctxt: SyntaxContext::empty(),
-        })
-    }
-
-    /// A name or a reserved word, which is passed.
-    pub(crate) fn word(&mut self) -> Result<IdentName, ReadError> {
-        let token = self.token();
-        let text = self.text_of(token);
-        let is_word = match text.as_bytes().first() {
-            Some(byte) => crate::word::is_part(*byte) && !byte.is_ascii_digit(),
-            None => false,
-        };
-        if !is_word {
-            return Err(self.refuse());
+        if token.on_new_line || matches!(token.kind, Kind::RightBrace | Kind::End) {
+            return Ok(());
         }
-        self.bump();
-        Ok(IdentName {
-            span: self.span_from(token.start),
-            sym: String::from_str(self.alloc, text)?,
-        })
+        Err(self.refuse())
     }
 }

@@ -1,81 +1,134 @@
 //! Reading a text.
-ghost use Rattle.std.specs.Prelude.{◌≡◌, ◌≤◌, length};
+ghost use Rattle.std.specs.Prelude.{◌≤◌, ◌^◌, ◌↔◌, length};
+ghost use Rattle.std.specs.Result.{IsErrOf};
 
 use crate::contexts::Contexts;
-use crate::cursor::{MOST_LEVELS, Parser};
-use crate::error::ReadError;
-use crate::scan::{TOO_LONG, tokenize};
-use crate::scopes::Scopes;
-use crate::token::Kind;
+use crate::cursor::{Parser, ROOM};
+use crate::error::{ReadError, told};
+use crate::scopes::{ScopeKind, Scopes};
 use std::alloc::Global;
-use swc_ast::{Expr, Mark, Script, Span};
+use swc_ast::{Expr, Mark, Module, Script, Span, SyntaxContext};
+use swc_lexer::{Fault, Kind, TOO_LONG, tokenize};
 
-/// The expressions of a text, each ended by a semicolon. Names are resolved for the mark.
-pub fn read_expressions(
-    alloc: Global,
-    text: &str,
-    unresolved_mark: Mark,
-) -> Result<Vec<Expr>, ReadError> {
+/// Reads a module (ECMA-262, 16.2) of core text. A span is a node's first and past-last byte plus 1.
+///
+/// The k-th scope that the text opens gives its names the context of the mark's number plus k, where numbers past 2^31 - 1 go on
+/// at 1: so no two scopes share one, and none has the mark's. Scopes are the module, each function, a function expression's own
+/// name, a body whose parameters have a default, each block, `for`, `switch` and `catch`. Other names have the mark's context.
+pub fn read_module(alloc: Global, text: &str, unresolved_mark: Mark) -> Result<Module, ReadError>
+    ensures too_long { IsErrOf result ReadError.TooLong ↔ 2 ^ 31 ≤ length text.now }
+{
     if text.len() >= TOO_LONG {
         return Err(ReadError::TooLong);
     }
-    let tokens = tokenize(alloc, text)?;
-    let mut parser = Parser {
-        alloc,
-        text,
-        tokens: tokens.as_slice(),
-        place: 0,
-        scopes: Scopes::new(alloc),
-    };
-    let mut read = Vec::new(alloc);
-    for _ in 0..tokens.len() {
-        if parser.is_at(Kind::End) {
-            break;
-        }
-        let found = parser.expression(2 * MOST_LEVELS)?;
-        parser.expect(Kind::Semicolon)?;
-        read.push(found.node)?;
+    match module(alloc, text, unresolved_mark) {
+        Ok(read) => Ok(read),
+        Err(fault) => Err(told(fault)),
     }
-    let contexts = parser.scopes.contexts(unresolved_mark)?;
-    let mut giver = Contexts::new(contexts.as_slice());
-    for i in 0..read.len() {
-        giver.expr(&mut read[i]);
-    }
-    Ok(read)
 }
 
-/// The statements of a text. Names are resolved for the mark.
-pub fn read_script(alloc: Global, text: &str, unresolved_mark: Mark) -> Result<Script, ReadError> {
+/// Reads a script (ECMA-262, 16.1) of core text as strict code. Spans, contexts and errors are those of `read_module`; the
+/// script is the first scope.
+pub fn read_script(alloc: Global, text: &str, unresolved_mark: Mark) -> Result<Script, ReadError>
+    ensures too_long { IsErrOf result ReadError.TooLong ↔ 2 ^ 31 ≤ length text.now }
+{
     if text.len() >= TOO_LONG {
         return Err(ReadError::TooLong);
     }
+    match script(alloc, text, unresolved_mark) {
+        Ok(read) => Ok(read),
+        Err(fault) => Err(told(fault)),
+    }
+}
+
+/// Reads a text that is one expression (ECMA-262, 13.16) of module code. Spans, contexts and errors are those of `read_module`,
+/// but for the scope of the module, which is not opened.
+pub fn read_expr(alloc: Global, text: &str, unresolved_mark: Mark) -> Result<Expr, ReadError>
+    ensures too_long { IsErrOf result ReadError.TooLong ↔ 2 ^ 31 ≤ length text.now }
+{
+    if text.len() >= TOO_LONG {
+        return Err(ReadError::TooLong);
+    }
+    match expr(alloc, text, unresolved_mark) {
+        Ok(read) => Ok(read),
+        Err(fault) => Err(told(fault)),
+    }
+}
+
+fn module(alloc: Global, text: &str, mark: Mark) -> Result<Module, Fault> {
     let tokens = tokenize(alloc, text)?;
-    let mut parser = Parser {
-        alloc,
-        text,
-        tokens: tokens.as_slice(),
-        place: 0,
-        scopes: Scopes::new(alloc),
-    };
-    parser.scopes.open(true)?;
+    let mut parser = Parser::new(alloc, text, tokens.as_slice());
+    parser.scopes.open(ScopeKind::Function)?;
     let mut body = Vec::new(alloc);
     for _ in 0..tokens.len() {
         if parser.is_at(Kind::End) {
             break;
         }
-        let found = parser.listed(2 * MOST_LEVELS)?;
-        body.push(found.node)?;
+        body.push(parser.module_item(ROOM)?)?;
     }
-    parser.scopes.close()?;
     parser.expect(Kind::End)?;
-    let contexts = parser.scopes.contexts(unresolved_mark)?;
-    let mut giver = Contexts::new(contexts.as_slice());
-    for i in 0..body.len() {
-        giver.stmt(&mut body[i]);
-    }
-    let hi = u32::try_from(text.len()).unwrap_or(0).saturating_add(1);
-    Ok(Script {
-        span: Span { lo: 1, hi },
+    parser.refuse_undeclared_exports()?;
+    parser.scopes.close()?;
+    let contexts = parser.scopes.contexts(mark)?;
+    let mut module = Module {
+        span: span_of(text),
         body,
-    })
+    };
+    resolve_module(contexts.as_slice(), &mut module);
+    Ok(module)
+}
+
+fn script(alloc: Global, text: &str, mark: Mark) -> Result<Script, Fault> {
+    let tokens = tokenize(alloc, text)?;
+    let mut parser = Parser::new(alloc, text, tokens.as_slice());
+    parser.scopes.open(ScopeKind::Function)?;
+    let mut body = Vec::new(alloc);
+    for _ in 0..tokens.len() {
+        if parser.is_at(Kind::End) {
+            break;
+        }
+        body.push(parser.listed(ROOM)?.node)?;
+    }
+    parser.expect(Kind::End)?;
+    parser.scopes.close()?;
+    let contexts = parser.scopes.contexts(mark)?;
+    let mut script = Script {
+        span: span_of(text),
+        body,
+    };
+    resolve_script(contexts.as_slice(), &mut script);
+    Ok(script)
+}
+
+fn expr(alloc: Global, text: &str, mark: Mark) -> Result<Expr, Fault> {
+    let tokens = tokenize(alloc, text)?;
+    let mut parser = Parser::new(alloc, text, tokens.as_slice());
+    let mut read = parser.expression(ROOM)?.node;
+    parser.expect(Kind::End)?;
+    let contexts = parser.scopes.contexts(mark)?;
+    Contexts::new(contexts.as_slice()).expr(&mut read);
+    Ok(read)
+}
+
+fn resolve_module(contexts: &[SyntaxContext], module: &mut Module) {
+    let mut giver = Contexts::new(contexts);
+    for i in 0..module.body.len() {
+        giver.module_item(&mut module.body[i]);
+    }
+}
+
+fn resolve_script(contexts: &[SyntaxContext], script: &mut Script) {
+    let mut giver = Contexts::new(contexts);
+    for i in 0..script.body.len() {
+        giver.stmt(&mut script.body[i]);
+    }
+}
+
+/// The span of the whole text.
+fn span_of(text: &str) -> Span {
+    let len = u32::try_from(text.len()).unwrap_or(0);
+    Span {
+        lo: 1,
+        hi: len.saturating_add(1),
+    }
 }

@@ -21,12 +21,39 @@ enum Event {
     Mention(u32),
 }
 
+/// What a scope is.
+#[derive(Clone, Copy)]
+pub(crate) enum ScopeKind {
+    /// a module, a script, or a function's parameters and body
+    Function,
+    /// a function's body beside parameters with a default, and one with them as to what may be declared
+    Body,
+    /// a block, `for`, `switch`, `catch`, or a function expression's own name
+    Block,
+    /// the block of a `catch`, and one with it as to what may be declared
+    CatchBody,
+}
+
 #[derive(Drop)]
 struct Scope {
-    /// whether a `var` goes no further out
-    holds_vars: bool,
+    kind: ScopeKind,
     /// the numbers of the names that it binds
     names: Vec<u32>,
+}
+
+/// The greatest number of a mark.
+const LAST_MARK: u64 = 0x7FFF_FFFF;
+
+/// The mark of the scope with a number, which counts from 0: past the last number it goes on at 1, so that no two scopes share
+/// one.
+fn mark_of(mark: Mark, scope: u32) -> Mark {
+    let sum = u64::from(mark.number()) + u64::from(scope) + 1;
+    let number = if sum > LAST_MARK {
+        sum - LAST_MARK
+    } else {
+        sum
+    };
+    Mark::new(u32::try_from(number).unwrap_or(0)).unwrap_or(mark)
 }
 
 /// The scopes of a text that were opened so far.
@@ -63,11 +90,11 @@ impl<'a> Scopes<'a> {
         Ok(symbol)
     }
 
-    pub(crate) fn open(&mut self, holds_vars: bool) -> Result<(), AllocError> {
+    pub(crate) fn open(&mut self, kind: ScopeKind) -> Result<(), AllocError> {
         let number = u32::try_from(self.scopes.len()).unwrap_or(0);
         self.events.push(Event::Open(number))?;
         self.scopes.push(Scope {
-            holds_vars,
+            kind,
             names: Vec::new(self.alloc),
         })?;
         self.open.push(number)?;
@@ -95,53 +122,79 @@ impl<'a> Scopes<'a> {
         Ok(())
     }
 
+    fn kind_of(&self, scope: u32) -> ScopeKind {
+        match self.scopes.get(scope as usize) {
+            Some(found) => found.kind,
+            None => ScopeKind::Function,
+        }
+    }
+
+    /// The scope that is open so many scopes out of the innermost one.
+    fn open_scope(&self, out: usize) -> u32 {
+        let place = self.open.len().saturating_sub(out).saturating_sub(1);
+        self.open.get(place).copied().unwrap_or(0)
+    }
+
+    /// Whether the scope round this one, which is one with it, declares a name.
+    fn is_declared_beside(&self, out: usize, symbol: u32) -> bool {
+        let round = self.open_scope(out.saturating_add(1));
+        match self.kind_of(self.open_scope(out)) {
+            ScopeKind::Body | ScopeKind::CatchBody => self.declared.contains_key(&(round, symbol)),
+            ScopeKind::Function | ScopeKind::Block => false,
+        }
+    }
+
     /// Declares a name in the innermost scope, and says whether it may.
     pub(crate) fn declare(&mut self, name: &'a str) -> Result<bool, AllocError> {
-        let symbol = self.symbol(name)?;
-        let scope = self.open.last().copied().unwrap_or(0);
-        if self.declared.contains_key(&(scope, symbol)) {
-            return Ok(false);
-        }
-        self.bind(scope, symbol, Declared::Lexical)?;
-        Ok(true)
+        self.declare_here(name, Declared::Lexical)
     }
 
     /// Declares a parameter of the innermost scope, and says whether it may.
     pub(crate) fn declare_param(&mut self, name: &'a str) -> Result<bool, AllocError> {
-        let symbol = self.symbol(name)?;
-        let scope = self.open.last().copied().unwrap_or(0);
-        if self.declared.contains_key(&(scope, symbol)) {
-            return Ok(false);
-        }
-        self.bind(scope, symbol, Declared::Param)?;
-        Ok(true)
+        self.declare_here(name, Declared::Param)
     }
 
-    fn holds_vars(&self, scope: u32) -> bool {
-        match self.scopes.get(scope as usize) {
-            Some(found) => found.holds_vars,
-            None => true,
+    fn declare_here(&mut self, name: &'a str, how: Declared) -> Result<bool, AllocError> {
+        let symbol = self.symbol(name)?;
+        let scope = self.open_scope(0);
+        if self.declared.contains_key(&(scope, symbol)) || self.is_declared_beside(0, symbol) {
+            return Ok(false);
         }
+        self.bind(scope, symbol, how)?;
+        Ok(true)
     }
 
     /// Declares a `var`, and says whether it may.
     pub(crate) fn declare_var(&mut self, name: &'a str) -> Result<bool, AllocError> {
         let symbol = self.symbol(name)?;
-        for back in 0..self.open.len() {
-            let place = self.open.len().saturating_sub(back).saturating_sub(1);
-            let scope = self.open.get(place).copied().unwrap_or(0);
+        for out in 0..self.open.len() {
+            let scope = self.open_scope(out);
             match self.declared.get(&(scope, symbol)) {
                 Some(Declared::Lexical) => return Ok(false),
                 Some(_) => return Ok(true),
                 None => {}
             }
-            if self.holds_vars(scope) {
-                self.bind(scope, symbol, Declared::Var)?;
-                return Ok(true);
+            if self.is_declared_beside(out, symbol) {
+                return Ok(false);
+            }
+            match self.kind_of(scope) {
+                ScopeKind::Function | ScopeKind::Body => {
+                    self.bind(scope, symbol, Declared::Var)?;
+                    return Ok(true);
+                }
+                ScopeKind::Block | ScopeKind::CatchBody => {}
             }
             self.declared.insert((scope, symbol), Declared::Var)?;
         }
         Ok(true)
+    }
+
+    /// Whether the first scope of the text declares a name.
+    pub(crate) fn is_declared_first(&self, name: &str) -> bool {
+        match self.symbols.get(name) {
+            Some(symbol) => self.declared.contains_key(&(0, *symbol)),
+            None => false,
+        }
     }
 
     /// The context of each mention, in the order of the text. The k-th scope has the k-th context behind the mark.
@@ -154,8 +207,7 @@ impl<'a> Scopes<'a> {
             match *event {
                 Event::Open(number) => {
                     heights.push(hidden.len())?;
-                    let own = mark.number().saturating_add(number).saturating_add(1);
-                    let own = Mark::new(own).unwrap_or(mark);
+                    let own = mark_of(mark, number);
                     self.enter(number, own, &mut current, &mut hidden)?;
                 }
                 Event::Close => {

@@ -1,38 +1,93 @@
 //! What literals stand for.
-use crate::error::{OutOfCore, ReadError};
+use crate::fault::{Construct, Fault};
 use std::alloc::Global;
 
 /// The greatest number that is read.
 const GREATEST: i64 = 9_007_199_254_740_991;
 
-/// The value of a number's text.
-pub(crate) fn number(text: &[u8], at: u32) -> Result<i64, ReadError> {
+/// The value of a number's text, which begins with a digit or a dot (ECMA-262, 12.9.3). Only `0` and decimal digits without a
+/// leading zero have one; past 2^53 - 1 they are `NumberRange`, and other numbers of the grammar are `OutOfCore`.
+pub fn number(text: &[u8], at: u32) -> Result<i64, Fault> {
     let mut value: i64 = 0;
     for (i, byte) in text.iter().enumerate() {
         let byte = *byte;
-        if !byte.is_ascii_digit() {
-            return Err(not_decimal(byte, i.saturating_add(1) == text.len(), at));
-        }
-        if i == 1 && value == 0 {
-            return Err(ReadError::Syntax { at });
+        if !byte.is_ascii_digit() || (i == 1 && value == 0) {
+            return Err(not_decimal(text, at));
         }
         value = value
             .saturating_mul(10)
             .saturating_add(i64::from(byte - b'0'));
     }
     if value > GREATEST {
-        return Err(ReadError::NumberRange { at });
+        return Err(Fault::NumberRange { at });
     }
     Ok(value)
 }
 
-fn not_decimal(byte: u8, is_last: bool, at: u32) -> ReadError {
-    let what = if byte == b'n' && is_last {
-        OutOfCore::BigInt
+/// The digits that a number's first signs promise.
+#[derive(Clone, Copy)]
+enum Radix {
+    Binary,
+    Octal,
+    Decimal,
+    Hex,
+}
+
+impl Radix {
+    fn of(text: &[u8]) -> Radix {
+        match text {
+            [b'0', b'x' | b'X', ..] => Radix::Hex,
+            [b'0', b'o' | b'O', ..] => Radix::Octal,
+            [b'0', b'b' | b'B', ..] => Radix::Binary,
+            _ => Radix::Decimal,
+        }
+    }
+
+    /// Whether a number of the grammar has these digits, with separators, a fraction and an exponent where it may.
+    fn admits(self, digits: &[u8]) -> bool {
+        let mut in_exponent = false;
+        for byte in digits {
+            let fits = match (self, *byte) {
+                (_, b'0' | b'1' | b'_') => true,
+                (Radix::Hex, digit) => digit.is_ascii_hexdigit(),
+                (Radix::Octal, digit) => (b'2'..=b'7').contains(&digit),
+                (Radix::Binary, _) => false,
+                (Radix::Decimal, b'e' | b'E') => !in_exponent,
+                (Radix::Decimal, sign) => sign.is_ascii_digit()
+                    || matches!(sign, b'.' | b'+' | b'-'),
+            };
+            if !fits {
+                return false;
+            }
+            in_exponent = in_exponent || matches!(*byte, b'e' | b'E');
+        }
+        !digits.is_empty()
+    }
+}
+
+/// What a number's text is that is no plain decimal.
+fn not_decimal(text: &[u8], at: u32) -> Fault {
+    let radix = Radix::of(text);
+    let is_big = text.last() == Some(&b'n');
+    let end = if is_big {
+        text.len().saturating_sub(1)
     } else {
-        OutOfCore::Number
+        text.len()
     };
-    ReadError::OutOfCore { at, what }
+    let from = if matches!(radix, Radix::Decimal) {
+        0
+    } else {
+        2
+    };
+    if !radix.admits(text.get(from..end).unwrap_or(b"")) {
+        return Fault::Syntax { at };
+    }
+    let what = if is_big {
+        Construct::BigInt
+    } else {
+        Construct::Number
+    };
+    Fault::OutOfCore { at, what }
 }
 
 /// Where the reading of an escape stands.
@@ -41,7 +96,7 @@ enum Escape {
     Outside,
     /// behind the backslash
     Begun,
-    /// behind the backslash and a carriage return
+    /// behind a carriage return
     LineBroken,
     /// digits to come, and the value so far
     Digits(u32, u32),
@@ -53,8 +108,9 @@ enum Escape {
     Zero,
 }
 
-/// The text that a literal without its quotes stands for.
-pub(crate) fn text(alloc: Global, raw: &str, at: u32) -> Result<String, ReadError> {
+/// What the text of a literal or of a template's part stands for, given without its quotes (ECMA-262, 12.9.4 and 12.9.6). In a
+/// template a carriage return, with a line feed or without one, is a line feed. An escape of no grammar is `Syntax`.
+pub fn text(alloc: Global, raw: &str, at: u32) -> Result<String, Fault> {
     let mut value = String::with_capacity(alloc, raw.len())?;
     let mut escape = Escape::Outside;
     let mut high: u32 = 0;
@@ -84,14 +140,14 @@ pub(crate) fn text(alloc: Global, raw: &str, at: u32) -> Result<String, ReadErro
     }
     match escape {
         Escape::Outside | Escape::Zero | Escape::LineBroken => Ok(value),
-        _ => Err(ReadError::Syntax { at }),
+        _ => Err(Fault::Syntax { at }),
     }
 }
 
-fn surrogate(at: u32) -> ReadError {
-    ReadError::OutOfCore {
+fn surrogate(at: u32) -> Fault {
+    Fault::OutOfCore {
         at,
-        what: OutOfCore::Surrogate,
+        what: Construct::Surrogate,
     }
 }
 
@@ -104,8 +160,8 @@ fn joined(high: u32, low: u32) -> Option<char> {
 }
 
 /// One character more: where the reading stands then, and the unit or the character that is complete.
-fn step(escape: Escape, c: char, at: u32) -> Result<(Escape, Option<u32>), ReadError> {
-    let wrong = ReadError::Syntax { at };
+fn step(escape: Escape, c: char, at: u32) -> Result<(Escape, Option<u32>), Fault> {
+    let wrong = Fault::Syntax { at };
     match escape {
         Escape::Outside => Ok(plain(c)),
         Escape::Begun => begun(c).ok_or(wrong),
@@ -154,10 +210,10 @@ fn step(escape: Escape, c: char, at: u32) -> Result<(Escape, Option<u32>), ReadE
 }
 
 fn plain(c: char) -> (Escape, Option<u32>) {
-    if c == '\\' {
-        (Escape::Begun, None)
-    } else {
-        (Escape::Outside, Some(c as u32))
+    match c {
+        '\\' => (Escape::Begun, None),
+        '\r' => (Escape::LineBroken, Some(10)),
+        _ => (Escape::Outside, Some(c as u32)),
     }
 }
 

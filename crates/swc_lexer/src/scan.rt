@@ -2,10 +2,10 @@
 ghost use Rattle.std.specs.Prelude.{◌≤◌, ◌<◌, ◌^◌, length};
 
 use crate::blank::blank_at_front;
-use crate::literal::{TemplateEnd, template_len, text_len};
+use crate::literal::{TemplateEnd, regex_len, template_len, text_len};
 use crate::punctuator::{byte_at, punctuator};
 use crate::token::{Kind, Token};
-use crate::word::{kind_of_word, word_len};
+use crate::word::{kind_of_word, wide_len, word_len};
 use std::alloc::{AllocError, Global};
 
 /// The longest text that is read has one byte less.
@@ -14,6 +14,7 @@ pub const TOO_LONG: usize = 0x8000_0000;
 /// What is left of a text.
 #[derive(Drop)]
 struct Scanner<'a> {
+    text: &'a str,
     bytes: &'a [u8],
     place: usize,
     ghost within: { place ≤ length bytes.now },
@@ -62,7 +63,7 @@ impl<'a> Scanner<'a> {
             }
             None => {
                 self.place = self.bytes.len();
-                Kind::Bad
+                Kind::Endless
             }
         }
     }
@@ -78,19 +79,79 @@ impl<'a> Scanner<'a> {
         }
     }
 
-    /// A number, with the letters and the fraction behind it.
+    /// A number, with the letters, the fraction and the exponent behind it.
     fn number(&mut self) -> Kind {
         self.advance(word_len(self.rest()));
         if byte_at(self.rest(), 0) == b'.' {
             self.advance(1);
             self.advance(word_len(self.rest()));
         }
+        let before = byte_at(self.bytes, self.place.saturating_sub(1));
+        if matches!(before, b'e' | b'E') && matches!(byte_at(self.rest(), 0), b'+' | b'-') {
+            self.advance(1);
+            self.advance(word_len(self.rest()));
+        }
         Kind::Number
+    }
+
+    /// A name that has more than ASCII, whose first part was passed. It is what its first part is where nothing more comes.
+    fn wide_name(&mut self, found: Kind) -> Kind {
+        let mut kind = found;
+        for _ in self.place..self.bytes.len() {
+            let len = wide_len(self.text.get(self.place..).unwrap_or(""));
+            if len == 0 {
+                break;
+            }
+            kind = Kind::WideName;
+            self.advance(len);
+            self.advance(word_len(self.rest()));
+        }
+        kind
+    }
+
+    /// Whether a name may go on here by more than ASCII.
+    #[inline(always)]
+    fn is_wide(&self) -> bool {
+        let next = byte_at(self.rest(), 0);
+        next >= 0x80 || next == b'\\'
+    }
+
+    fn slash(&mut self, begins_regex: bool) -> Kind {
+        if !begins_regex {
+            let (kind, len) = punctuator(self.rest());
+            self.advance(len);
+            return kind;
+        }
+        self.advance(1);
+        match regex_len(self.rest()) {
+            Some(len) => {
+                self.advance(len);
+                self.advance(word_len(self.rest()));
+                Kind::Regex
+            }
+            None => Kind::Bad,
+        }
+    }
+
+    /// What begins with no letter, digit or quote.
+    #[inline(always)]
+    fn other(&mut self) -> Kind {
+        let rest = self.rest();
+        match byte_at(rest, 0) {
+            b'.' if byte_at(rest, 1).is_ascii_digit() => self.number(),
+            b'\\' | 0x80..=0xFF => self.wide_name(Kind::Bad),
+            b'#' if self.place == 0 && byte_at(rest, 1) == b'!' => Kind::HashBang,
+            _ => {
+                let (kind, len) = punctuator(rest);
+                self.advance(len);
+                kind
+            }
+        }
     }
 
     /// Passes a token and says what it is.
     #[inline(always)]
-    fn pass_token(&mut self, in_template: bool) -> Kind {
+    fn pass_token(&mut self, in_template: bool, begins_regex: bool) -> Kind {
         let rest = self.rest();
         let Some(first) = rest.first() else {
             return Kind::End;
@@ -99,21 +160,27 @@ impl<'a> Scanner<'a> {
             b'a'..=b'z' => {
                 let word = &rest[..word_len(rest)];
                 self.advance(word.len());
-                kind_of_word(word)
+                let kind = kind_of_word(word);
+                if self.is_wide() {
+                    self.wide_name(kind)
+                } else {
+                    kind
+                }
             }
             b'A'..=b'Z' | b'_' | b'$' => {
                 self.advance(word_len(rest));
-                Kind::Name
+                if self.is_wide() {
+                    self.wide_name(Kind::Name)
+                } else {
+                    Kind::Name
+                }
             }
             b'0'..=b'9' => self.number(),
             b'"' | b'\'' => self.text(*first),
             b'`' => self.template(Kind::Template, Kind::TemplateHead),
             b'}' if in_template => self.template(Kind::TemplateTail, Kind::TemplateMiddle),
-            _ => {
-                let (kind, len) = punctuator(rest);
-                self.advance(len);
-                kind
-            }
+            b'/' => self.slash(begins_regex),
+            _ => self.other(),
         }
     }
 }
@@ -135,6 +202,27 @@ impl Tokens {
                 None => Kind::End,
             },
             None => Kind::End,
+        }
+    }
+
+    fn kind_before(&self, back: usize) -> Kind {
+        let place = self.tokens.len().wrapping_sub(back);
+        match self.tokens.get(place) {
+            Some(token) => token.kind,
+            None => Kind::End,
+        }
+    }
+
+    /// Whether an operand is to come next, so that a slash begins a regular expression. Behind `)` and `}` it is taken for a
+    /// division.
+    #[inline(always)]
+    fn wants_operand(&self) -> bool {
+        match self.kind_before(1) {
+            Kind::Name | Kind::WideName | Kind::Number | Kind::Text | Kind::Regex => false,
+            Kind::Template | Kind::TemplateTail | Kind::PlusPlus | Kind::MinusMinus => false,
+            Kind::RightParen | Kind::RightBracket | Kind::RightBrace => false,
+            Kind::This | Kind::Null | Kind::True | Kind::False | Kind::Super => false,
+            _ => !matches!(self.kind_before(2), Kind::Dot | Kind::OptionalDot),
         }
     }
 
@@ -171,12 +259,16 @@ impl Tokens {
     }
 }
 
-/// The tokens of a text. The last one is its end, or what begins no token.
+/// The tokens of a text below 2^31 bytes (ECMA-262, 12). The last one is its end, or what begins no token.
 pub fn tokenize(alloc: Global, text: &str) -> Result<Vec<Token>, AllocError>
     requires { length text.now < 2 ^ 31 }
 {
     let bytes = text.as_bytes();
-    let mut scanner = Scanner { bytes, place: 0 };
+    let mut scanner = Scanner {
+        text,
+        bytes,
+        place: 0,
+    };
     let mut out = Tokens {
         tokens: Vec::new(alloc),
         open: Vec::new(alloc),
@@ -185,7 +277,12 @@ pub fn tokenize(alloc: Global, text: &str) -> Result<Vec<Token>, AllocError>
         let on_new_line = scanner.pass_blanks();
         let start = scanner.place as u32;
         let in_template = matches!(out.innermost(), Kind::TemplateHead | Kind::TemplateMiddle);
-        let kind = scanner.pass_token(in_template);
+        let kind = scanner.pass_token(in_template, out.wants_operand());
+        let start = if matches!(kind, Kind::Endless) {
+            scanner.place as u32
+        } else {
+            start
+        };
         out.push(Token {
             start,
             end: scanner.place as u32,
@@ -193,7 +290,7 @@ pub fn tokenize(alloc: Global, text: &str) -> Result<Vec<Token>, AllocError>
             kind,
             on_new_line,
         })?;
-        if matches!(kind, Kind::End | Kind::Bad) {
+        if matches!(kind, Kind::End | Kind::Bad | Kind::Endless | Kind::HashBang) {
             break;
         }
     }

@@ -1,0 +1,17 @@
+//! The tokens of JavaScript text, and what literals stand for.
+#![tactic(auto)]
+
+mod blank;
+mod cook;
+mod fault;
+mod literal;
+mod punctuator;
+mod scan;
+mod token;
+mod word;
+
+pub use cook::{number, text};
+pub use fault::{Construct, Fault};
+pub use scan::{TOO_LONG, tokenize};
+pub use token::{Kind, Token};
+pub use word::is_word_part;

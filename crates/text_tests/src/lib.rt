@@ -1,0 +1,7 @@
+//! What is read of texts, and what is told of those that are not read.
+#![tactic(auto)]
+
+#[cfg(test)]
+mod faults;
+#[cfg(test)]
+mod trees;
