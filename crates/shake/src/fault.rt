@@ -2,7 +2,9 @@
 ghost use Rattle.std.specs.Prelude.{◌≡◌};
 ghost use Rattle.shake.specs.Status.{status_of};
 
-use crate::standin::{PassError, PrintError, ReadError};
+use swc_ast::PassError;
+use swc_printer::PrintError;
+use swc_text::ReadError;
 use thiserror::Error;
 
 /// Why a run fails. Its text stands behind `shake: ` on standard error.

@@ -8,17 +8,20 @@ ghost use Rattle.shake.specs.declared.fault.Fault.TheVariants.{Arguments, Output
 mod fault;
 mod input;
 mod options;
-mod standin;
 #[cfg(test)]
 mod tests;
 
 use fault::Fault;
 use options::{Options, PassName};
-use standin::{Module, PassError, print, read_module, simplify};
 use std::alloc::Global;
 use std::env;
 use std::io::{ErrorKind, Read, Write};
 use std::process::ExitCode;
+use swc_ast::{Mark, Module, PassError};
+use swc_expr::{Config, expr_simplifier};
+use swc_pass::Pass;
+use swc_printer::print;
+use swc_text::read_module;
 
 /// The program's work: `args` are the words behind its name. Reads a module from `reader`, with the unresolved mark 1,
 /// runs the pass that the first word names and writes the answer. Gives the exit status: 0; 1 on a failure, with one
@@ -67,19 +70,28 @@ fn work<R: Read, W: Write>(
     writer.flush().map_err(|_| Fault::Output)
 }
 
-// The answer's text. The pass's own faults come before the printer's.
+// The text of what the pass makes of the module read.
 fn answer<R: Read>(alloc: Global, options: Options, reader: &mut R) -> Result<String, Fault>
     ensures { IfErr result (λ fault. fault ≢ Arguments × fault ≢ Output) }
 {
     let text = input::read_text(alloc, reader)?;
-    let module = read_module(alloc, text.as_str()).map_err(Fault::Read)?;
-    let simpler = run_pass(alloc, options, &module).map_err(Fault::Pass)?;
+    let mark = Mark::new(1).unwrap();
+    let module = read_module(alloc, text.as_str(), mark).map_err(Fault::Read)?;
+    let simpler = run_pass(alloc, options, mark, module).map_err(Fault::Pass)?;
     print(alloc, &simpler).map_err(Fault::Print)
 }
 
-fn run_pass(alloc: Global, options: Options, module: &Module) -> Result<Module, PassError> {
+fn run_pass(
+    alloc: Global,
+    options: Options,
+    mark: Mark,
+    module: Module,
+) -> Result<Module, PassError> {
     match options.pass {
-        PassName::Expr => simplify(alloc, module),
+        PassName::Expr => {
+            let mut pass = expr_simplifier(mark, Config {});
+            pass.rewrite(alloc, module)
+        }
     }
 }
 

@@ -116,7 +116,17 @@ fn bytes(text: &[u8]) -> Source<'_> {
 
 #[test]
 fn answers_modules(rt: HostRuntime) -> Result<(), Fail> {
-    for (text, output) in [("f(1 + 2);", "f(3);\n"), ("", "")] {
+    let modules = [
+        ("f(1 + 2);", "f(3);\n"),
+        ("f('a' + 'b', -7, 2 ** 10)", "f('ab', -7, 1024);\n"),
+        ("f(2 ** 50);", "f(2 ** 50);\n"),
+        (
+            "f(9007199254740991 + 1, 7 / 2, -0, 5 % 0);",
+            "f(9007199254740991 + 1, 7 / 2, -0, 5 % 0);\n",
+        ),
+        ("", ""),
+    ];
+    for (text, output) in modules {
         let sink = Sink::new(&rt, AMPLE);
         let ran = ran(&rt, &["expr"], bytes(text.as_bytes()), sink, AMPLE)?;
         assert_eq!(rt; ran.status, 0, "{text}");
@@ -177,9 +187,14 @@ fn refuses_arguments(rt: HostRuntime) -> Result<(), Fail> {
 
 #[test]
 fn tells_faults(rt: HostRuntime) -> Result<(), Fail> {
-    let faults: [(&[u8], &[u8]); 2] = [
+    let mut deep = vec![in rt.alloc(); b'!'; 1000]?;
+    deep.push(b'a')?;
+    let faults: [(&[u8], &[u8]); 5] = [
         (b"f(1 + 2", b"shake: syntax at 7\n"),
+        (b"class A {}", b"shake: out of core at 0: Class\n"),
+        (b"9007199254740992", b"shake: number range at 0\n"),
         (b"f(\xff);", b"shake: input\n"),
+        (deep.as_slice(), b"shake: too deep\n"),
     ];
     for (text, line) in faults {
         let ran = ran(&rt, &["expr"], bytes(text), Sink::new(&rt, AMPLE), AMPLE)?;
