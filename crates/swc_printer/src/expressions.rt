@@ -1,0 +1,205 @@
+//! Expressions.
+use crate::error::PrintError;
+use crate::precedence::{
+    ASSIGNMENT, CALL, COMMA, SHORT_CIRCUIT, assignment_sign, binary_sign, constructor_strength,
+    left_strength, object_strength, operand_strength, right_strength, strength, unary_sign,
+    update_sign,
+};
+use crate::writer::Printer;
+use swc_ast::{
+    ArrayLit, AssignTarget, BinExpr, BinaryOp, CondExpr, Expr, MemberExpr, MemberProp, Tpl,
+    UpdateExpr,
+};
+
+fn is_in(expr: &Expr) -> bool {
+    match expr {
+        Expr::Bin(node) => node.op == BinaryOp::In,
+        _ => false,
+    }
+}
+
+impl Printer {
+    /// What stands in brackets: an `in` is one of the text there. Answers whether it would not be outside them.
+    pub(crate) fn enter(&mut self) -> bool {
+        let in_head = self.in_head;
+        self.in_head = false;
+        in_head
+    }
+
+    /// An expression that has to bind so tightly, in parentheses if it does not.
+    #[cycle(print)]
+    pub(crate) fn expr(&mut self, expr: &Expr, least: u8) -> Result<(), PrintError> {
+        if strength(expr) >= least && !(self.in_head && is_in(expr)) {
+            return self.bare_expr(expr);
+        }
+        self.wrapped(expr)
+    }
+
+    #[cycle(print)]
+    pub(crate) fn wrapped(&mut self, expr: &Expr) -> Result<(), PrintError> {
+        let in_head = self.enter();
+        self.put("(")?;
+        self.bare_expr(expr)?;
+        self.in_head = in_head;
+        self.put(")")
+    }
+
+    #[cycle(print)]
+    fn bare_expr(&mut self, expr: &Expr) -> Result<(), PrintError> {
+        match expr {
+            Expr::This(_) => self.put("this"),
+            Expr::Ident(name) => self.name(name),
+            Expr::Lit(literal) => self.literal(literal),
+            Expr::Array(node) => self.array(node),
+            Expr::Object(node) => self.object(node),
+            Expr::Fn(node) => self.function_expr(node),
+            Expr::Unary(node) => {
+                self.put(unary_sign(node.op))?;
+                self.expr(&node.arg, operand_strength(node.op, &node.arg))
+            }
+            Expr::Update(node) => self.update(node),
+            Expr::Bin(node) => self.binary(node),
+            Expr::Assign(node) => {
+                self.target(&node.left)?;
+                self.put(assignment_sign(node.op))?;
+                self.expr(&node.right, ASSIGNMENT)
+            }
+            Expr::Member(member) => self.member(member),
+            Expr::Cond(node) => self.condition(node),
+            Expr::Call(node) => {
+                self.expr(&node.callee, CALL)?;
+                self.arguments(&node.args)
+            }
+            Expr::New(node) => {
+                self.put("new ")?;
+                self.expr(&node.callee, constructor_strength(&node.callee))?;
+                self.arguments(&node.args)
+            }
+            Expr::Seq(node) => self.list(&node.exprs),
+            Expr::Tpl(node) => self.template(node),
+            Expr::Arrow(node) => self.arrow(node),
+            Expr::Invalid(_) => Err(PrintError::Invalid),
+        }
+    }
+
+    #[cycle(print)]
+    fn list(&mut self, exprs: &Vec<Expr>) -> Result<(), PrintError> {
+        for (i, expr) in exprs.iter().enumerate() {
+            self.comma(i)?;
+            self.expr(expr, ASSIGNMENT)?;
+        }
+        Ok(())
+    }
+
+    #[cycle(print)]
+    fn arguments(&mut self, args: &Vec<Expr>) -> Result<(), PrintError> {
+        let in_head = self.enter();
+        self.put("(")?;
+        self.list(args)?;
+        self.in_head = in_head;
+        self.put(")")
+    }
+
+    #[cycle(print)]
+    fn array(&mut self, node: &ArrayLit) -> Result<(), PrintError> {
+        let in_head = self.enter();
+        self.put("[")?;
+        for (i, item) in node.elems.iter().enumerate() {
+            self.comma(i)?;
+            match item {
+                Some(item) => {
+                    if item.spread.is_some() {
+                        self.put("...")?;
+                    }
+                    self.expr(&item.expr, ASSIGNMENT)?;
+                }
+                None => {
+                    if i.saturating_add(1) == node.elems.len() {
+                        self.put(",")?;
+                    }
+                }
+            }
+        }
+        self.in_head = in_head;
+        self.put("]")
+    }
+
+    #[cycle(print)]
+    fn update(&mut self, node: &UpdateExpr) -> Result<(), PrintError> {
+        if node.prefix {
+            self.put(update_sign(node.op))?;
+        }
+        self.target(&node.arg)?;
+        if !node.prefix {
+            self.put(update_sign(node.op))?;
+        }
+        Ok(())
+    }
+
+    #[cycle(print)]
+    fn target(&mut self, target: &AssignTarget) -> Result<(), PrintError> {
+        match target {
+            AssignTarget::Ident(name) => self.name(name),
+            AssignTarget::Member(member) => self.member(member),
+        }
+    }
+
+    #[cycle(print)]
+    fn binary(&mut self, node: &BinExpr) -> Result<(), PrintError> {
+        self.expr(&node.left, left_strength(node))?;
+        self.put(binary_sign(node.op))?;
+        self.expr(&node.right, right_strength(node))
+    }
+
+    #[cycle(print)]
+    fn condition(&mut self, node: &CondExpr) -> Result<(), PrintError> {
+        self.expr(&node.test, SHORT_CIRCUIT)?;
+        self.put(" ? ")?;
+        let in_head = self.enter();
+        self.expr(&node.cons, ASSIGNMENT)?;
+        self.in_head = in_head;
+        self.put(" : ")?;
+        self.expr(&node.alt, ASSIGNMENT)
+    }
+
+    #[cycle(print)]
+    fn member(&mut self, member: &MemberExpr) -> Result<(), PrintError> {
+        self.expr(&member.obj, object_strength(member))?;
+        match &member.prop {
+            MemberProp::Ident(name) => {
+                self.put(".")?;
+                self.put(name.sym.as_str())
+            }
+            MemberProp::Computed(key) => {
+                let in_head = self.enter();
+                self.put("[")?;
+                self.expr(&key.expr, COMMA)?;
+                self.in_head = in_head;
+                self.put("]")
+            }
+        }
+    }
+
+    /// The first text of a template, and an expression and a text in turn.
+    #[cycle(print)]
+    fn template(&mut self, node: &Tpl) -> Result<(), PrintError> {
+        let in_head = self.enter();
+        self.put("`")?;
+        self.quasi_at(node, 0)?;
+        for (i, expr) in node.exprs.iter().enumerate() {
+            self.put("${")?;
+            self.expr(expr, COMMA)?;
+            self.put("}")?;
+            self.quasi_at(node, i.saturating_add(1))?;
+        }
+        self.in_head = in_head;
+        self.put("`")
+    }
+
+    fn quasi_at(&mut self, node: &Tpl, place: usize) -> Result<(), PrintError> {
+        match node.quasis.get(place) {
+            Some(quasi) => self.quasi(quasi.cooked.as_str()),
+            None => Ok(()),
+        }
+    }
+}

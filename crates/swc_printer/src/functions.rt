@@ -1,0 +1,126 @@
+//! Functions, arrows, and what stands in objects.
+use crate::error::PrintError;
+use crate::precedence::{ASSIGNMENT, COMMA, First, first_of};
+use crate::writer::Printer;
+use swc_ast::{
+    ArrowExpr, BlockStmtOrExpr, Expr, FnExpr, Function, ObjectLit, Pat, Prop, PropName,
+    PropOrSpread,
+};
+
+impl Printer {
+    #[cycle(print)]
+    pub(crate) fn function_expr(&mut self, node: &FnExpr) -> Result<(), PrintError> {
+        self.put("function ")?;
+        if let Some(name) = &node.ident {
+            self.name(name)?;
+        }
+        self.function(&node.function)
+    }
+
+    /// The parameters and the body.
+    #[cycle(print)]
+    pub(crate) fn function(&mut self, function: &Function) -> Result<(), PrintError> {
+        let in_head = self.enter();
+        self.params(&function.params)?;
+        self.put(" ")?;
+        self.block(&function.body)?;
+        self.in_head = in_head;
+        Ok(())
+    }
+
+    #[cycle(print)]
+    fn params(&mut self, params: &Vec<Pat>) -> Result<(), PrintError> {
+        self.put("(")?;
+        for (i, param) in params.iter().enumerate() {
+            self.comma(i)?;
+            match param {
+                Pat::Ident(name) => self.name(name)?,
+                Pat::Assign(node) => {
+                    self.name(&node.left)?;
+                    self.put(" = ")?;
+                    self.expr(&node.right, ASSIGNMENT)?;
+                }
+            }
+        }
+        self.put(")")
+    }
+
+    #[cycle(print)]
+    pub(crate) fn arrow(&mut self, arrow: &ArrowExpr) -> Result<(), PrintError> {
+        let in_head = self.enter();
+        self.params(&arrow.params)?;
+        self.put(" => ")?;
+        match &arrow.body {
+            BlockStmtOrExpr::BlockStmt(body) => {
+                self.block(body)?;
+                self.in_head = in_head;
+                Ok(())
+            }
+            BlockStmtOrExpr::Expr(body) => {
+                self.in_head = in_head;
+                if first_of(body) == First::Brace {
+                    self.wrapped(body)
+                } else {
+                    self.expr(body, ASSIGNMENT)
+                }
+            }
+        }
+    }
+
+    #[cycle(print)]
+    pub(crate) fn object(&mut self, node: &ObjectLit) -> Result<(), PrintError> {
+        let in_head = self.enter();
+        self.put("{")?;
+        for (i, prop) in node.props.iter().enumerate() {
+            self.comma(i)?;
+            self.prop(prop)?;
+        }
+        self.in_head = in_head;
+        self.put("}")
+    }
+
+    #[cycle(print)]
+    fn prop(&mut self, prop: &PropOrSpread) -> Result<(), PrintError> {
+        match prop {
+            PropOrSpread::Spread(node) => {
+                self.put("...")?;
+                self.expr(&node.expr, ASSIGNMENT)
+            }
+            PropOrSpread::Prop(Prop::Shorthand(name)) => self.name(name),
+            PropOrSpread::Prop(Prop::KeyValue(node)) => {
+                self.key(&node.key)?;
+                self.put(": ")?;
+                self.expr(&node.value, ASSIGNMENT)
+            }
+            PropOrSpread::Prop(Prop::Method(node)) => {
+                self.key(&node.key)?;
+                self.function(&node.function)
+            }
+        }
+    }
+
+    #[cycle(print)]
+    fn key(&mut self, key: &PropName) -> Result<(), PrintError> {
+        match key {
+            PropName::Ident(name) => self.put(name.sym.as_str()),
+            PropName::Str(text) => self.text(text.value.as_str()),
+            PropName::Num(number) => self.number(number.value),
+            PropName::Computed(key) => {
+                self.put("[")?;
+                self.expr(&key.expr, ASSIGNMENT)?;
+                self.put("]")
+            }
+        }
+    }
+
+    /// An expression where what begins so would be read as something else.
+    #[cycle(print)]
+    pub(crate) fn expr_alone(&mut self, expr: &Expr, least: u8) -> Result<(), PrintError> {
+        let first = first_of(expr);
+        if first == First::Function || (first == First::Brace && least == COMMA) {
+            self.wrapped(expr)
+        } else {
+            self.expr(expr, least)
+        }
+    }
+}

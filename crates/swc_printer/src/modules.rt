@@ -1,0 +1,108 @@
+//! Modules and scripts: each item on a line of its own.
+use crate::error::PrintError;
+use crate::precedence::ASSIGNMENT;
+use crate::writer::Printer;
+use swc_ast::{
+    IdentName, ImportDecl, ImportSpecifier, Module, ModuleDecl, ModuleItem, NamedExport, Script,
+};
+
+impl Printer {
+    pub(crate) fn module(&mut self, module: &Module) -> Result<(), PrintError> {
+        for item in &module.body {
+            match item {
+                ModuleItem::ModuleDecl(decl) => self.module_decl(decl)?,
+                ModuleItem::Stmt(stmt) => self.stmt(stmt)?,
+            }
+            self.put("\n")?;
+        }
+        Ok(())
+    }
+
+    pub(crate) fn script(&mut self, script: &Script) -> Result<(), PrintError> {
+        for stmt in &script.body {
+            self.stmt(stmt)?;
+            self.put("\n")?;
+        }
+        Ok(())
+    }
+
+    fn module_decl(&mut self, decl: &ModuleDecl) -> Result<(), PrintError> {
+        match decl {
+            ModuleDecl::Import(node) => self.import(node),
+            ModuleDecl::ExportDecl(node) => {
+                self.put("export ")?;
+                self.decl(&node.decl)
+            }
+            ModuleDecl::ExportNamed(node) => self.named_export(node),
+            ModuleDecl::ExportDefaultDecl(node) => {
+                self.put("export default ")?;
+                self.function_expr(&node.decl)
+            }
+            ModuleDecl::ExportDefaultExpr(node) => {
+                self.put("export default ")?;
+                self.expr_alone(&node.expr, ASSIGNMENT)?;
+                self.put(";")
+            }
+        }
+    }
+
+    fn import(&mut self, node: &ImportDecl) -> Result<(), PrintError> {
+        self.put("import ")?;
+        let mut in_braces = false;
+        for (i, specifier) in node.specifiers.iter().enumerate() {
+            let is_named = matches!(specifier, ImportSpecifier::Named(_));
+            if in_braces && !is_named {
+                self.put("}")?;
+            }
+            self.comma(i)?;
+            if is_named && !in_braces {
+                self.put("{")?;
+            }
+            in_braces = is_named;
+            self.import_specifier(specifier)?;
+        }
+        if in_braces {
+            self.put("}")?;
+        }
+        if !node.specifiers.is_empty() {
+            self.put(" from ")?;
+        }
+        self.text(node.src.value.as_str())?;
+        self.put(";")
+    }
+
+    fn import_specifier(&mut self, specifier: &ImportSpecifier) -> Result<(), PrintError> {
+        match specifier {
+            ImportSpecifier::Named(node) => {
+                if let Some(imported) = &node.imported {
+                    self.put(imported.sym.as_str())?;
+                    self.put(" as ")?;
+                }
+                self.name(&node.local)
+            }
+            ImportSpecifier::Default(node) => self.name(&node.local),
+            ImportSpecifier::Namespace(node) => {
+                self.put("* as ")?;
+                self.name(&node.local)
+            }
+        }
+    }
+
+    fn named_export(&mut self, node: &NamedExport) -> Result<(), PrintError> {
+        self.put("export {")?;
+        for (i, specifier) in node.specifiers.iter().enumerate() {
+            self.comma(i)?;
+            self.name(&specifier.orig)?;
+            self.exported_as(&specifier.exported)?;
+        }
+        self.put("};")
+    }
+
+    fn exported_as(&mut self, exported: &Option<IdentName>) -> Result<(), PrintError> {
+        if let Some(exported) = exported {
+            self.put(" as ")?;
+            self.put(exported.sym.as_str())?;
+        }
+        Ok(())
+    }
+}
