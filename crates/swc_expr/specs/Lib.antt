@@ -1,0 +1,4 @@
+pub mod Arithmetic
+pub mod Folds
+pub mod Nodes
+pub mod Simplified
