@@ -18,10 +18,6 @@ pub changed_by-missing : (word : List ℕ) (o : Options) → takes_operand word 
 changed_by-missing word o takes = simp takes refl
 
 -- the same over any items that stand for words, from what is left before to what is left behind
-pub taken-switched : {X : Type 0} (f : X → List ℕ) (before after : List X) (w : X) (o p : Options) (whole : Option Options) → before ≡ w ∷ after → takes_operand (f w) ≡ false → switched (f w) o ≡ Some p → changed_by (map f before) o ≡ whole → changed_by (map f after) p ≡ whole
-taken-switched f before after w o p whole first alone is before-is =
-    sym (changed_by-switched (f w) (map f after) o p alone is) ∙ subst (λ ws. changed_by (map f ws) o ≡ whole) first before-is
-
 pub taken-valued : {X : Type 0} (f : X → List ℕ) (before middle after : List X) (w n : X) (o p : Options) (whole : Option Options) → before ≡ w ∷ middle → middle ≡ n ∷ after → takes_operand (f w) ≡ true → valued (f w) (f n) o ≡ Some p → changed_by (map f before) o ≡ whole → changed_by (map f after) p ≡ whole
 taken-valued f before middle after w n o p whole first second takes is before-is =
     let at_word = subst (λ ws. changed_by (map f ws) o ≡ whole) first before-is in
