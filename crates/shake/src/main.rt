@@ -1,0 +1,125 @@
+//! The program `shake`: reads a module from standard input, runs a pass on it and prints the answer.
+#![tactic(auto)]
+
+ghost use Rattle.std.specs.Prelude.{◌≡◌, ◌≢◌, ◌≤◌, ◌↔◌, IsNone, IfOk, IfErr, map, string_bytes};
+ghost use Rattle.shake.specs.CommandLine.{command_line};
+ghost use Rattle.shake.specs.declared.fault.Fault.TheVariants.{Arguments, Output};
+
+mod fault;
+mod input;
+mod options;
+#[cfg(test)]
+mod tests;
+
+use fault::Fault;
+use options::{Options, PassName};
+use std::alloc::Global;
+use std::env;
+use std::io::{ErrorKind, Read, Write};
+use std::process::ExitCode;
+use swc_ast::{Mark, Module, PassError};
+use swc_expr::{Config, expr_simplifier};
+use swc_pass::Pass;
+use swc_printer::print;
+use swc_text::read_module;
+
+/// The program's work: `args` are the words behind its name. Reads a module from `reader`, with the unresolved mark 1,
+/// runs the pass that the first word names and writes the answer. Gives the exit status: 0; 1 on a failure, with one
+/// line on `errors` and nothing written unless a write itself failed; 2 with the line `shake: arguments` where the
+/// words aren't understood, and then nothing is read. Faults are found in the order arguments, input, reader, pass,
+/// printer, output. A failed write to `errors` changes no status.
+pub fn run<R: Read, W: Write, E: Write>(
+    alloc: Global,
+    args: &[String],
+    reader: &mut R,
+    writer: &mut W,
+    errors: &mut E,
+) -> u8
+    ensures status { result ≤ 2 }
+    ensures arguments { (result ≡ 2) ↔ IsNone (command_line (map string_bytes args.now)) }
+    ensures unread { result ≡ 2 → reader.new ≡ reader.old }
+    ensures unwritten { result ≡ 2 → writer.new ≡ writer.old }
+    ensures silent { result ≡ 0 → errors.new ≡ errors.old }
+{
+    match work(alloc, args, reader, writer) {
+        Ok(()) => 0,
+        Err(fault) => {
+            let _ = writeln!(errors, "shake: {fault}");
+            fault.status()
+        }
+    }
+}
+
+fn work<R: Read, W: Write>(
+    alloc: Global,
+    args: &[String],
+    reader: &mut R,
+    writer: &mut W,
+) -> Result<(), Fault>
+    ensures ok { IfOk result (λ u. command_line (map string_bytes args.now) ≢ None) }
+    ensures arguments { IfErr result (λ fault. (fault ≡ Arguments) ↔ IsNone (command_line (map string_bytes args.now))) }
+    ensures unread { IfErr result (λ fault. fault ≡ Arguments → reader.new ≡ reader.old) }
+    ensures unwritten { IfErr result (λ fault. fault ≢ Output → writer.new ≡ writer.old) }
+{
+    let options = Options::parse(args).ok_or(Fault::Arguments)?;
+    let answer = answer(alloc, options, reader)?;
+    // The text is whole before the first write.
+    writer
+        .write_all(answer.as_bytes())
+        .map_err(|_| Fault::Output)?;
+    writer.flush().map_err(|_| Fault::Output)
+}
+
+// The text of what the pass makes of the module read.
+fn answer<R: Read>(alloc: Global, options: Options, reader: &mut R) -> Result<String, Fault>
+    ensures { IfErr result (λ fault. fault ≢ Arguments × fault ≢ Output) }
+{
+    let text = input::read_text(alloc, reader)?;
+    let mark = Mark::new(1).unwrap();
+    let module = read_module(alloc, text.as_str(), mark).map_err(Fault::Read)?;
+    let simpler = run_pass(alloc, options, mark, module).map_err(Fault::Pass)?;
+    print(alloc, &simpler).map_err(Fault::Print)
+}
+
+fn run_pass(
+    alloc: Global,
+    options: Options,
+    mark: Mark,
+    module: Module,
+) -> Result<Module, PassError> {
+    match options.pass {
+        PassName::Expr => {
+            let mut pass = expr_simplifier(mark, Config {});
+            pass.rewrite(alloc, module)
+        }
+    }
+}
+
+fn main(rt: HostRuntime) -> ExitCode {
+    let (mut reader, mut writer, mut errors) = (rt.stdin(), rt.stdout(), rt.stderr());
+    match arguments(&rt) {
+        Ok(args) => ExitCode::from(run(
+            rt.alloc(),
+            args.as_slice(),
+            &mut reader,
+            &mut writer,
+            &mut errors,
+        )),
+        Err(fault) => {
+            let _ = writeln!(errors, "shake: {fault}");
+            ExitCode::from(fault.status())
+        }
+    }
+}
+
+// The words behind the program's name. A word that isn't UTF-8 isn't understood.
+fn arguments(rt: &HostRuntime) -> Result<Vec<String>, Fault> {
+    match env::args(rt) {
+        Ok(words) => words
+            .skip(1)
+            .collect(rt.alloc())
+            .map_err(|_| Fault::OutOfMemory),
+        Err(error) if error.kind() == ErrorKind::OutOfMemory => Err(Fault::OutOfMemory),
+        Err(_) => Err(Fault::Arguments),
+    }
+}
