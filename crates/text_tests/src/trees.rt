@@ -66,7 +66,7 @@ fn the_kth_scope_has_the_kth_context(rt: HostRuntime) {
         ("(a) => a;", 9),
         ("(function f() { f; });", 9),
         ("(function f(f) { f; });", 10),
-        ("(function () { b; var b; });", 9),
+        ("(function () { b; { var b; } b; });", 9),
         ("(a = 1) => { var b; b; };", 10),
         ("(a = 1) => { a; };", 9),
         ("{ let a; } { let a; a; }", 10),
@@ -136,7 +136,7 @@ const LONG: &str = "import a, {b as c, default as d} from 'm'; import * as e fro
     for (let i = 0, j = (a in b); i < 3; i++) { switch (i) { case 1: r; default: } }\n\
     try { throw a } catch (s) { a.b[c](d)\n++t } finally { ; }\n\
     (x, y = 1) => { var z = x ** -y ?? y; return z && a || b }\n\
-    const u = function v(w) { new v(w, [, ...w]); return typeof void w, delete a[b] }, aa = ab => ab";
+    const u = function v(w) { new v(w, [, ...w]); return typeof void w, delete a[b] }, zz = ab => ab";
 
 #[test]
 fn each_beginning_is_read_or_refused_at_its_end(rt: HostRuntime) {
