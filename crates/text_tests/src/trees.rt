@@ -89,7 +89,10 @@ fn the_kth_scope_has_the_kth_context(rt: HostRuntime) {
             continue;
         };
         let own = Mark::new(context).expect(&rt, "a mark");
-        assert!(rt; name.ctxt == SyntaxContext::empty().apply_mark(own), "{text}");
+        assert!(rt;
+            name.ctxt == SyntaxContext::empty().apply_mark(own),
+            "{text}"
+        );
     }
 }
 
@@ -114,8 +117,9 @@ fn templates_are_cooked(rt: HostRuntime) {
         Expr::Tpl(node) => {
             assert_eq!(rt; node.quasis.len(), 2);
             assert_eq!(rt; node.exprs.len(), 1);
-            for (i, (cooked, tail, lo, hi)) in
-                [("a\nb", false, 2, 6), ("A\n", true, 10, 18)].into_iter().enumerate()
+            for (i, (cooked, tail, lo, hi)) in [("a\nb", false, 2, 6), ("A\n", true, 10, 18)]
+                .into_iter()
+                .enumerate()
             {
                 let Some(quasi) = node.quasis.get(i) else {
                     return;
@@ -130,7 +134,8 @@ fn templates_are_cooked(rt: HostRuntime) {
 }
 
 /// Core text with a form of each kind.
-const LONG: &str = "import a, {b as c, default as d} from 'm'; import * as e from 'n'; import 'o';\n\
+const LONG: &str =
+    "import a, {b as c, default as d} from 'm'; import * as e from 'n'; import 'o';\n\
     export var f = `x${a}y`, g; export {f as h, c as default}; export function k() { return g(); }\n\
     l: do { if (a) continue l; else break } while (b) a = ({m() {}, n: 1, 'o': 2, [p]: 3, ...q});\n\
     for (let i = 0, j = (a in b); i < 3; i++) { switch (i) { case 1: r; default: } }\n\
