@@ -1,8 +1,8 @@
 //! Gives each name of a tree its context. Names are met in the order of the text.
 use swc_ast::{
-    ArrowExpr, AssignTarget, BlockStmtOrExpr, CatchClause, Decl, Expr, Function, Ident,
-    ImportSpecifier, MemberProp, ModuleDecl, ModuleItem, Pat, Prop, PropName, PropOrSpread, Stmt,
-    SwitchCase, SyntaxContext, TryStmt, VarDeclOrExpr,
+    ArrowExpr, AssignTarget, BlockStmtOrExpr, CatchClause, Decl, ExportNamedSpecifier, Expr,
+    Function, Ident, ImportSpecifier, MemberProp, ModuleDecl, ModuleItem, Pat, Prop, PropName,
+    PropOrSpread, Stmt, SwitchCase, SyntaxContext, TryStmt, VarDeclOrExpr,
 };
 
 /// The contexts that are still to be given.
@@ -296,26 +296,34 @@ impl<'a> Contexts<'a> {
 
     fn module_decl(&mut self, decl: &mut ModuleDecl) {
         match decl {
-            ModuleDecl::Import(node) => {
-                for i in 0..node.specifiers.len() {
-                    match &mut node.specifiers[i] {
-                        ImportSpecifier::Named(specifier) => self.name(&mut specifier.local),
-                        ImportSpecifier::Default(specifier) => self.name(&mut specifier.local),
-                        ImportSpecifier::Namespace(specifier) => self.name(&mut specifier.local),
-                    }
-                }
-            }
+            ModuleDecl::Import(node) => self.import(&mut node.specifiers),
             ModuleDecl::ExportDecl(node) => self.decl(&mut node.decl),
-            ModuleDecl::ExportNamed(node) => {
-                for i in 0..node.specifiers.len() {
-                    self.name(&mut node.specifiers[i].orig);
-                }
-            }
+            ModuleDecl::ExportNamed(node) => self.export(&mut node.specifiers),
             ModuleDecl::ExportDefaultDecl(node) => {
                 self.optional(&mut node.decl.ident);
                 self.function(&mut node.decl.function);
             }
             ModuleDecl::ExportDefaultExpr(node) => self.expr(&mut node.expr),
+        }
+    }
+
+    fn import(&mut self, specifiers: &mut Vec<ImportSpecifier>) {
+        for i in 0..specifiers.len() {
+            self.import_specifier(&mut specifiers[i]);
+        }
+    }
+
+    fn import_specifier(&mut self, specifier: &mut ImportSpecifier) {
+        match specifier {
+            ImportSpecifier::Named(node) => self.name(&mut node.local),
+            ImportSpecifier::Default(node) => self.name(&mut node.local),
+            ImportSpecifier::Namespace(node) => self.name(&mut node.local),
+        }
+    }
+
+    fn export(&mut self, specifiers: &mut Vec<ExportNamedSpecifier>) {
+        for i in 0..specifiers.len() {
+            self.name(&mut specifiers[i].orig);
         }
     }
 }

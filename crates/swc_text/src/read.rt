@@ -1,5 +1,5 @@
 //! Reading a text.
-ghost use Rattle.std.specs.Prelude.{◌≤◌, ◌^◌, ◌↔◌, length};
+ghost use Rattle.std.specs.Prelude.{◌≤◌, ◌<◌, ◌^◌, ◌↔◌, length};
 ghost use Rattle.std.specs.Result.{IsErrOf};
 
 use crate::contexts::Contexts;
@@ -7,7 +7,7 @@ use crate::cursor::{Parser, ROOM};
 use crate::error::{ReadError, told};
 use crate::scopes::{ScopeKind, Scopes};
 use std::alloc::Global;
-use swc_ast::{Expr, Mark, Module, Script, Span, SyntaxContext};
+use swc_ast::{Expr, Mark, Module, ModuleItem, Script, Span, Stmt, SyntaxContext};
 use swc_lexer::{Fault, Kind, TOO_LONG, tokenize};
 
 /// Reads a module (ECMA-262, 16.2) of core text. A span is a node's first and past-last byte plus 1.
@@ -55,7 +55,9 @@ pub fn read_expr(alloc: Global, text: &str, unresolved_mark: Mark) -> Result<Exp
     }
 }
 
-fn module(alloc: Global, text: &str, mark: Mark) -> Result<Module, Fault> {
+fn module(alloc: Global, text: &str, mark: Mark) -> Result<Module, Fault>
+    requires { length text.now < 2 ^ 31 }
+{
     let tokens = tokenize(alloc, text)?;
     let mut parser = Parser::new(alloc, text, tokens.as_slice());
     parser.scopes.open(ScopeKind::Function)?;
@@ -70,15 +72,16 @@ fn module(alloc: Global, text: &str, mark: Mark) -> Result<Module, Fault> {
     parser.refuse_undeclared_exports()?;
     parser.scopes.close()?;
     let contexts = parser.scopes.contexts(mark)?;
-    let mut module = Module {
+    resolve_items(contexts.as_slice(), &mut body);
+    Ok(Module {
         span: span_of(text),
         body,
-    };
-    resolve_module(contexts.as_slice(), &mut module);
-    Ok(module)
+    })
 }
 
-fn script(alloc: Global, text: &str, mark: Mark) -> Result<Script, Fault> {
+fn script(alloc: Global, text: &str, mark: Mark) -> Result<Script, Fault>
+    requires { length text.now < 2 ^ 31 }
+{
     let tokens = tokenize(alloc, text)?;
     let mut parser = Parser::new(alloc, text, tokens.as_slice());
     parser.scopes.open(ScopeKind::Function)?;
@@ -92,15 +95,16 @@ fn script(alloc: Global, text: &str, mark: Mark) -> Result<Script, Fault> {
     parser.expect(Kind::End)?;
     parser.scopes.close()?;
     let contexts = parser.scopes.contexts(mark)?;
-    let mut script = Script {
+    resolve_statements(contexts.as_slice(), &mut body);
+    Ok(Script {
         span: span_of(text),
         body,
-    };
-    resolve_script(contexts.as_slice(), &mut script);
-    Ok(script)
+    })
 }
 
-fn expr(alloc: Global, text: &str, mark: Mark) -> Result<Expr, Fault> {
+fn expr(alloc: Global, text: &str, mark: Mark) -> Result<Expr, Fault>
+    requires { length text.now < 2 ^ 31 }
+{
     let tokens = tokenize(alloc, text)?;
     let mut parser = Parser::new(alloc, text, tokens.as_slice());
     let mut read = parser.expression(ROOM)?.node;
@@ -110,17 +114,17 @@ fn expr(alloc: Global, text: &str, mark: Mark) -> Result<Expr, Fault> {
     Ok(read)
 }
 
-fn resolve_module(contexts: &[SyntaxContext], module: &mut Module) {
+fn resolve_items(contexts: &[SyntaxContext], items: &mut Vec<ModuleItem>) {
     let mut giver = Contexts::new(contexts);
-    for i in 0..module.body.len() {
-        giver.module_item(&mut module.body[i]);
+    for i in 0..items.len() {
+        giver.module_item(&mut items[i]);
     }
 }
 
-fn resolve_script(contexts: &[SyntaxContext], script: &mut Script) {
+fn resolve_statements(contexts: &[SyntaxContext], stmts: &mut Vec<Stmt>) {
     let mut giver = Contexts::new(contexts);
-    for i in 0..script.body.len() {
-        giver.stmt(&mut script.body[i]);
+    for i in 0..stmts.len() {
+        giver.stmt(&mut stmts[i]);
     }
 }
 

@@ -48,7 +48,10 @@ const FAULTS: &[(&str, &str)] = &[
     ("f() = 1;", "syntax at 0"),
     ("export {a}; export {b};", "syntax at 8"),
     ("var a; export {a, a as b, a};", "syntax at 26"),
-    ("export var a; export function b() {} export {b};", "syntax at 45"),
+    (
+        "export var a; export function b() {} export {b};",
+        "syntax at 45",
+    ),
     ("export default 1; export default 2;", "syntax at 25"),
     // what the core leaves out
     ("a = 1.5;", "out of core at 4: Number"),
@@ -100,16 +103,37 @@ const FAULTS: &[(&str, &str)] = &[
     ("let a; { var a; }", "out of core at 13: Redeclared"),
     ("{ var a; } let a;", "out of core at 15: Redeclared"),
     ("{ let a; { var a; } }", "out of core at 15: Redeclared"),
-    ("function f() {} function f() {}", "out of core at 25: Redeclared"),
+    (
+        "function f() {} function f() {}",
+        "out of core at 25: Redeclared",
+    ),
     ("function f(a, a) {}", "out of core at 14: Redeclared"),
     ("function f(a) { let a; }", "out of core at 20: Redeclared"),
-    ("function f(a = 1) { var a; }", "out of core at 24: Redeclared"),
-    ("function f(a, b = 1) { { var a; } }", "out of core at 29: Redeclared"),
-    ("(a = 1) => { function a() {} };", "out of core at 22: Redeclared"),
-    ("try {} catch (a) { let a; }", "out of core at 23: Redeclared"),
-    ("try {} catch (a) { { var a; } }", "out of core at 25: Redeclared"),
+    (
+        "function f(a = 1) { var a; }",
+        "out of core at 24: Redeclared",
+    ),
+    (
+        "function f(a, b = 1) { { var a; } }",
+        "out of core at 29: Redeclared",
+    ),
+    (
+        "(a = 1) => { function a() {} };",
+        "out of core at 22: Redeclared",
+    ),
+    (
+        "try {} catch (a) { let a; }",
+        "out of core at 23: Redeclared",
+    ),
+    (
+        "try {} catch (a) { { var a; } }",
+        "out of core at 25: Redeclared",
+    ),
     ("for (let a; ;) { var a; }", "out of core at 21: Redeclared"),
-    ("import a, {b as a} from 'm';", "out of core at 16: Redeclared"),
+    (
+        "import a, {b as a} from 'm';",
+        "out of core at 16: Redeclared",
+    ),
     ("import a from 'm'; var a;", "out of core at 23: Redeclared"),
     // numbers past the limit
     ("9007199254740992", "number range at 0"),
