@@ -53,7 +53,7 @@ fn folds_two_numbers(rt: HostRuntime) -> Result<(), Fail> {
         (BinaryOp::Lt, 1, 3, 2, None),
     ] {
         let left = number(2, end, left);
-        let right = number(end + 3, end + 4, right);
+        let right = number(20, 21, right);
         let sum = binary(alloc, op, left, right)?;
         assert_eq!(rt; simplified(alloc, &mut pass, sum)?, wanted);
         assert_eq!(rt; pass.changed(), wanted.is_some());
