@@ -102,6 +102,8 @@ enum Escape {
     Digits(u32, u32),
     /// behind `\u`
     Unicode,
+    /// behind the opening brace
+    Brace,
     /// inside the braces, with the value so far
     Braced(u32),
     /// behind `\0`
@@ -183,21 +185,17 @@ fn step(escape: Escape, c: char, at: u32) -> Result<(Escape, Option<u32>), Fault
         }
         Escape::Unicode => {
             if c == '{' {
-                return Ok((Escape::Braced(0), None));
+                return Ok((Escape::Brace, None));
             }
             let digit = c.to_digit(16).ok_or(wrong)?;
             Ok((Escape::Digits(3, digit), None))
         }
+        Escape::Brace => braced(0, c).ok_or(wrong),
         Escape::Braced(value) => {
             if c == '}' {
                 return Ok((Escape::Outside, Some(value)));
             }
-            let digit = c.to_digit(16).ok_or(wrong)?;
-            let value = value.saturating_mul(16).saturating_add(digit);
-            if value > 0x10FFFF {
-                return Err(wrong);
-            }
-            Ok((Escape::Braced(value), None))
+            braced(value, c).ok_or(wrong)
         }
         Escape::Zero => {
             if c.is_ascii_digit() {
@@ -215,6 +213,15 @@ fn plain(c: char) -> (Escape, Option<u32>) {
         '\r' => (Escape::LineBroken, Some(10)),
         _ => (Escape::Outside, Some(c as u32)),
     }
+}
+
+/// One digit more in the braces of an escape.
+fn braced(value: u32, c: char) -> Option<(Escape, Option<u32>)> {
+    let value = value.saturating_mul(16).saturating_add(c.to_digit(16)?);
+    if value > 0x10FFFF {
+        return None;
+    }
+    Some((Escape::Braced(value), None))
 }
 
 /// The character behind a backslash.

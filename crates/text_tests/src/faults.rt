@@ -12,6 +12,7 @@ const FAULTS: &[(&str, &str)] = &[
     ("a b", "syntax at 2"),
     ("'\\1'", "syntax at 0"),
     ("'\\u{110000}'", "syntax at 0"),
+    ("'\\u{}'", "syntax at 0"),
     ("3a", "syntax at 0"),
     ("a ?? b || c", "syntax at 7"),
     ("a ?? b && c", "syntax at 7"),
