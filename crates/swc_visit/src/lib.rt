@@ -1,0 +1,15 @@
+//! A tree as it is read: what each node is, and its children.
+#![tactic(auto)]
+
+mod children;
+mod expressions;
+mod kind;
+mod modules;
+mod node;
+mod opened;
+mod statements;
+
+pub use children::{Children, NodeList};
+pub use kind::Kind;
+pub use node::Node;
+pub use opened::Opened;
