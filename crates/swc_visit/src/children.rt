@@ -117,31 +117,40 @@ impl<'a> Children<'a> {
         ensures { children_forest self.entry ≡ next_forest result }
     {
         if let Some(a) = self.first {
-            return Some((a, Children {
-                first: self.second,
-                second: self.third,
-                third: self.fourth,
-                fourth: None,
-                list: self.list,
-            }));
+            return Some((
+                a,
+                Children {
+                    first: self.second,
+                    second: self.third,
+                    third: self.fourth,
+                    fourth: None,
+                    list: self.list,
+                },
+            ));
         }
         if let Some(a) = self.second {
-            return Some((a, Children {
-                first: self.third,
-                second: self.fourth,
-                third: None,
-                fourth: None,
-                list: self.list,
-            }));
+            return Some((
+                a,
+                Children {
+                    first: self.third,
+                    second: self.fourth,
+                    third: None,
+                    fourth: None,
+                    list: self.list,
+                },
+            ));
         }
         if let Some(a) = self.third {
-            return Some((a, Children {
-                first: self.fourth,
-                second: None,
-                third: None,
-                fourth: None,
-                list: self.list,
-            }));
+            return Some((
+                a,
+                Children {
+                    first: self.fourth,
+                    second: None,
+                    third: None,
+                    fourth: None,
+                    list: self.list,
+                },
+            ));
         }
         if let Some(a) = self.fourth {
             return Some((a, Children::listed(self.list)));
@@ -160,8 +169,10 @@ impl<'a> NodeList<'a> {
             NodeList::Empty => None,
             NodeList::ModuleItems(xs) => match xs {
                 [] => None,
-                [x, rest @ ..] =>
-                    Some((Node::Item(x), Children::listed(NodeList::ModuleItems(rest)))),
+                [x, rest @ ..] => Some((
+                    Node::Item(x),
+                    Children::listed(NodeList::ModuleItems(rest)),
+                )),
             },
             NodeList::ImportSpecifiers(xs) => match xs {
                 [] => None,

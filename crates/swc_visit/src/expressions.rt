@@ -80,9 +80,7 @@ pub(crate) fn open_expr<'a>(e: &'a Expr) -> Opened<'a>
             Node::Expr(&n.alt),
         ),
         Expr::Call(n) => open_call(n),
-        Expr::New(n) => {
-            Opened::one(Kind::New, Node::Expr(&n.callee), NodeList::Exprs(&n.args))
-        }
+        Expr::New(n) => { Opened::one(Kind::New, Node::Expr(&n.callee), NodeList::Exprs(&n.args)) }
         Expr::Seq(n) => Opened::listed(Kind::Seq, NodeList::Exprs(&n.exprs)),
         Expr::Ident(n) => Opened::leaf(Kind::Read(n)),
         Expr::Lit(n) => open_lit(n),
@@ -190,9 +188,7 @@ fn open_member<'a>(n: &'a MemberExpr) -> Opened<'a>
     ensures { Opens (member_tree expr_tree n.now) result }
 {
     match &n.prop {
-        MemberProp::Ident(k) => {
-            Opened::one(Kind::Dot(k), Node::Expr(&n.obj), NodeList::Empty)
-        }
+        MemberProp::Ident(k) => { Opened::one(Kind::Dot(k), Node::Expr(&n.obj), NodeList::Empty) }
         MemberProp::Computed(k) => Opened::two(
             Kind::Index,
             Node::Expr(&n.obj),

@@ -2,6 +2,7 @@
 #![tactic(auto)]
 
 mod children;
+mod class;
 mod expressions;
 mod kind;
 mod modules;
@@ -10,6 +11,7 @@ mod opened;
 mod statements;
 
 pub use children::{Children, NodeList};
+pub use class::Class;
 pub use kind::Kind;
 pub use node::Node;
 pub use opened::Opened;

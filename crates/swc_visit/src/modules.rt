@@ -72,7 +72,11 @@ fn open_module_decl<'a>(n: &'a ModuleDecl) -> Opened<'a>
             NodeList::Empty,
         ),
         ModuleDecl::ExportDefaultExpr(n) => {
-            Opened::one(Kind::ExportDefaultExpr, Node::Expr(&n.expr), NodeList::Empty)
+            Opened::one(
+                Kind::ExportDefaultExpr,
+                Node::Expr(&n.expr),
+                NodeList::Empty,
+            )
         }
     }
 }

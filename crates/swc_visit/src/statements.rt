@@ -25,7 +25,11 @@ pub(crate) fn open_stmt<'a>(s: &'a Stmt) -> Opened<'a>
             None => Opened::leaf(Kind::Return),
         },
         Stmt::Labeled(n) => {
-            Opened::one(Kind::Labeled(&n.label), Node::Stmt(&n.body), NodeList::Empty)
+            Opened::one(
+                Kind::Labeled(&n.label),
+                Node::Stmt(&n.body),
+                NodeList::Empty,
+            )
         }
         Stmt::Break(n) => Opened::leaf(Kind::Break(&n.label)),
         Stmt::Continue(n) => Opened::leaf(Kind::Continue(&n.label)),
