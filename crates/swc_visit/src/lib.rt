@@ -9,9 +9,11 @@ mod modules;
 mod node;
 mod opened;
 mod statements;
+mod weights;
 
 pub use children::{Children, NodeList};
 pub use class::Class;
 pub use kind::Kind;
 pub use node::Node;
 pub use opened::Opened;
+pub use weights::{weight, weight_of_script};
