@@ -1,0 +1,4 @@
+pub mod Cases
+pub mod Parts
+pub mod Classes
+pub mod Caps

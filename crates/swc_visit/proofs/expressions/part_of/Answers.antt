@@ -1,0 +1,12 @@
+use Rattle.std.proofs.Common.{ap, ◌∙◌}
+use Rattle.swc_ast.specs.Views.{expr_tree}
+use Rattle.swc_ast.proofs.Places.{at_expr-Unary, at_expr-Call}
+use Rattle.swc_visit.specs.Nodes.{is_part_label, label_of}
+use Rattle.swc_visit.proofs.Parts.{call_no_part, unary_no_part}
+use Rattle.swc_visit.proofs.expressions.part_of.Goals as goal
+
+pub returns-in-Unary : goal.returns-in-Unary
+returns-in-Unary c = ap (λ t. is_part_label (label_of t)) (at_expr-Unary _ _ c.in-Unary.is) ∙ unary_no_part _ _ _
+
+pub returns-in-Call : goal.returns-in-Call
+returns-in-Call c = ap (λ t. is_part_label (label_of t)) (at_expr-Call _ _ c.in-Call.is) ∙ call_no_part _ _ _

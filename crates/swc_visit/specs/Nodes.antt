@@ -1,0 +1,89 @@
+-- The tree of a node, and the trees of the children that are still to be read.
+use Rattle.std.specs.Prelude.{Bool, true, false, ◌≡◌, Option, Some, None, map, List}
+use Rattle.swc_ast.specs.Tree.{Label, Read, Dot, Index, Tree, node, Forest, ε, ◌⊳◌}
+use Rattle.swc_ast.specs.Parts.{absent, list_trees, ident_tree}
+use Rattle.swc_ast.specs.declared.Span.{Span}
+use Rattle.swc_ast.specs.Expressions.{item_trees, key_tree, param_tree, params_tree, body_tree, member_tree}
+use Rattle.swc_ast.specs.Statements.{case_children, block_tree, declarator_tree, var_tree}
+use Rattle.swc_ast.specs.Views.{expr_tree, stmt_tree, decl_tree, prop_or_spread_tree, case_trees}
+use Rattle.swc_ast.specs.Modules.{import_specifier_tree, export_specifier_tree, item_tree, module_tree, script_tree}
+use Rattle.swc_visit.specs.declared.node.Node.{Node}
+use Rattle.swc_visit.specs.declared.node.Node.TheVariants as a
+use Rattle.swc_visit.specs.declared.children.NodeList.{NodeList}
+use Rattle.swc_visit.specs.declared.children.NodeList.TheVariants as list
+use Rattle.swc_visit.specs.declared.children.Children.{Children}
+use Rattle.swc_visit.specs.declared.opened.Opened.{Opened}
+use Rattle.swc_visit.specs.declared.expressions.Part.{Part}
+use Rattle.swc_visit.specs.declared.expressions.Part.TheVariants as part
+use Rattle.swc_visit.specs.Kinds.{kind_label}
+
+abbrev pub label_of : Tree → Label
+label_of (node l ss cs) = l
+
+abbrev pub children_of : Tree → Forest
+children_of (node l ss cs) = cs
+
+abbrev pub node_tree : Node → Tree
+node_tree (a.Module n) = module_tree n.now
+node_tree (a.Script n) = script_tree n.now
+node_tree (a.Item n) = item_tree n.now
+node_tree (a.ImportSpecifier n) = import_specifier_tree n.now
+node_tree (a.ExportSpecifier n) = export_specifier_tree n.now
+node_tree (a.Decl n) = decl_tree n.now
+node_tree (a.VarDecl n) = var_tree expr_tree n.now
+node_tree (a.Declarator k n) = declarator_tree expr_tree k n.now
+node_tree (a.Stmt n) = stmt_tree n.now
+node_tree (a.Block n) = block_tree stmt_tree n.now
+node_tree (a.CaseBody n) = (case_trees n.now).body
+node_tree (a.Expr n) = expr_tree n.now
+node_tree (a.Prop n) = prop_or_spread_tree n.now
+node_tree (a.Key n) = key_tree expr_tree n.now
+node_tree (a.Params n) = params_tree expr_tree n.now
+node_tree (a.Param n) = param_tree expr_tree n.now
+node_tree (a.Body n) = body_tree stmt_tree n.now
+node_tree a.Absent = absent
+
+abbrev pub list_forest : NodeList → Forest
+list_forest list.Empty = ε
+list_forest (list.ModuleItems xs) = list_trees item_tree xs.now
+list_forest (list.ImportSpecifiers xs) = list_trees import_specifier_tree xs.now
+list_forest (list.ExportSpecifiers xs) = list_trees export_specifier_tree xs.now
+list_forest (list.Declarators k xs) = list_trees (declarator_tree expr_tree k) xs.now
+list_forest (list.Stmts xs) = list_trees stmt_tree xs.now
+list_forest (list.Cases xs) = case_children (map case_trees xs.now)
+list_forest (list.Exprs xs) = list_trees expr_tree xs.now
+list_forest (list.Items xs) = item_trees expr_tree xs.now
+list_forest (list.Props xs) = list_trees prop_or_spread_tree xs.now
+list_forest (list.Params xs) = list_trees (param_tree expr_tree) xs.now
+
+abbrev pub before : Option Node → Forest → Forest
+before None ts = ts
+before (Some n) ts = node_tree n ⊳ ts
+
+-- the children that are still to be read
+abbrev pub children_forest : Children → Forest
+children_forest c = before c.first (before c.second (before c.third (before c.fourth (list_forest c.list))))
+
+-- the first child and those behind it
+abbrev pub next_forest : Option (Node × Children) → Forest
+next_forest None = ε
+next_forest (Some p) = node_tree p.0 ⊳ children_forest p.1
+
+abbrev pub spans_of : Tree → List Span
+spans_of (node l ss cs) = ss
+
+-- a tree is what a node was found to be, with its children
+abbrev pub Opens : Tree → Opened → Type 0
+Opens t o = (label_of t ≡ kind_label o.kind) × (children_of t ≡ children_forest o.children)
+
+-- a name or a member, which may be part of the node round it
+abbrev pub is_part_label : Label → Bool
+is_part_label (Read x) = true
+is_part_label (Dot k) = true
+is_part_label Index = true
+is_part_label _ = false
+
+abbrev pub IsPart : Part → Tree → Type 0
+IsPart (part.Name n) t = t ≡ ident_tree n.now
+IsPart (part.Member n) t = t ≡ member_tree expr_tree n.now
+IsPart part.Whole t = is_part_label (label_of t) ≡ false

@@ -1,0 +1,19 @@
+//! A tree as it is read: what each node is, and its children.
+#![tactic(auto)]
+
+mod children;
+mod class;
+mod expressions;
+mod kind;
+mod modules;
+mod node;
+mod opened;
+mod statements;
+mod weights;
+
+pub use children::{Children, NodeList};
+pub use class::Class;
+pub use kind::Kind;
+pub use node::Node;
+pub use opened::Opened;
+pub use weights::{weight, weight_of_script};

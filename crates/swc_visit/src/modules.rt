@@ -1,0 +1,98 @@
+//! What a node is and what its children are; modules and scripts.
+ghost use Rattle.std.specs.Prelude.{◌≡◌};
+ghost use Rattle.swc_ast.specs.Modules.{import_specifier_tree, export_specifier_tree, module_decl_tree, item_tree};
+ghost use Rattle.swc_visit.specs.Nodes.{node_tree, Opens};
+
+use crate::children::NodeList;
+use crate::expressions::{open_expr, open_key, open_param, open_prop_or_spread};
+use crate::kind::Kind;
+use crate::node::Node;
+use crate::opened::Opened;
+use crate::statements::{open_decl, open_declarator, open_stmt, open_var};
+use swc_ast::{ExportNamedSpecifier, ImportSpecifier, ModuleDecl, ModuleItem};
+
+impl<'a> Node<'a> {
+    /// What the node is, and its children.
+    #[tactic(auto, using(crate::proofs::Cases::case_body))]
+    pub fn open(self) -> Opened<'a>
+        ensures { Opens (node_tree self.entry) result }
+    {
+        match self {
+            Node::Module(n) => Opened::listed(Kind::Module, NodeList::ModuleItems(&n.body)),
+            Node::Script(n) => Opened::listed(Kind::Script, NodeList::Stmts(&n.body)),
+            Node::Item(n) => open_item(n),
+            Node::ImportSpecifier(n) => open_import_specifier(n),
+            Node::ExportSpecifier(n) => open_export_specifier(n),
+            Node::Decl(n) => open_decl(n),
+            Node::VarDecl(n) => open_var(n),
+            Node::Declarator(kind, n) => open_declarator(kind, n),
+            Node::Stmt(n) => open_stmt(n),
+            Node::Block(n) => Opened::listed(Kind::Block, NodeList::Stmts(&n.stmts)),
+            Node::CaseBody(n) => Opened::listed(Kind::CaseBody, NodeList::Stmts(&n.cons)),
+            Node::Expr(n) => open_expr(n),
+            Node::Prop(n) => open_prop_or_spread(n),
+            Node::Key(n) => open_key(n),
+            Node::Params(n) => Opened::listed(Kind::Params, NodeList::Params(n)),
+            Node::Param(n) => open_param(n),
+            Node::Body(n) => Opened::listed(Kind::Body, NodeList::Stmts(&n.stmts)),
+            Node::Absent => Opened::leaf(Kind::Absent),
+        }
+    }
+}
+
+fn open_item<'a>(n: &'a ModuleItem) -> Opened<'a>
+    ensures { Opens (item_tree n.now) result }
+{
+    match n {
+        ModuleItem::ModuleDecl(n) => open_module_decl(n),
+        ModuleItem::Stmt(n) => open_stmt(n),
+    }
+}
+
+#[tactic(auto, using(swc_ast::proofs::Equations::forms))]
+fn open_module_decl<'a>(n: &'a ModuleDecl) -> Opened<'a>
+    ensures { Opens (module_decl_tree n.now) result }
+{
+    match n {
+        ModuleDecl::Import(n) => Opened::listed(
+            Kind::Import(&n.src),
+            NodeList::ImportSpecifiers(&n.specifiers),
+        ),
+        ModuleDecl::ExportDecl(n) => {
+            Opened::one(Kind::ExportDecl, Node::Decl(&n.decl), NodeList::Empty)
+        }
+        ModuleDecl::ExportNamed(n) => Opened::listed(
+            Kind::ExportNamed,
+            NodeList::ExportSpecifiers(&n.specifiers),
+        ),
+        ModuleDecl::ExportDefaultDecl(n) => Opened::two(
+            Kind::ExportDefaultFn(&n.decl.ident),
+            Node::Params(&n.decl.function.params),
+            Node::Body(&n.decl.function.body),
+            NodeList::Empty,
+        ),
+        ModuleDecl::ExportDefaultExpr(n) => {
+            Opened::one(
+                Kind::ExportDefaultExpr,
+                Node::Expr(&n.expr),
+                NodeList::Empty,
+            )
+        }
+    }
+}
+
+fn open_import_specifier<'a>(n: &'a ImportSpecifier) -> Opened<'a>
+    ensures { Opens (import_specifier_tree n.now) result }
+{
+    match n {
+        ImportSpecifier::Named(n) => Opened::leaf(Kind::ImportNamed(n)),
+        ImportSpecifier::Default(n) => Opened::leaf(Kind::ImportDefault(&n.local)),
+        ImportSpecifier::Namespace(n) => Opened::leaf(Kind::ImportStar(&n.local)),
+    }
+}
+
+fn open_export_specifier<'a>(n: &'a ExportNamedSpecifier) -> Opened<'a>
+    ensures { Opens (export_specifier_tree n.now) result }
+{
+    Opened::leaf(Kind::ExportSpecifier(n))
+}
