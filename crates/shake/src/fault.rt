@@ -3,8 +3,7 @@ ghost use Rattle.std.specs.Prelude.{◌≡◌};
 ghost use Rattle.shake.specs.Status.{status_of};
 
 use swc_ast::PassError;
-use swc_printer::PrintError;
-use swc_text::ReadError;
+use swc_text::{PrintError, ReadError};
 use thiserror::Error;
 
 /// Why a run fails. Its text stands behind `shake: ` on standard error.

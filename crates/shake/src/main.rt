@@ -20,8 +20,7 @@ use std::process::ExitCode;
 use swc_ast::{Mark, Module, PassError};
 use swc_expr::{Config, expr_simplifier};
 use swc_pass::Pass;
-use swc_printer::print;
-use swc_text::read_module;
+use swc_text::{print, read_module};
 
 /// The program's work: `args` are the words behind its name. Reads a module from `reader`, with the unresolved mark 1,
 /// runs the pass that the first word names and writes the answer. Gives the exit status: 0; 1 on a failure, with one
