@@ -12,6 +12,6 @@ mod word;
 
 pub use cook::{number, text};
 pub use fault::{Construct, Fault};
-pub use scan::{TOO_LONG, tokenize};
+pub use scan::tokenize;
 pub use token::{Kind, Token};
 pub use word::is_word_part;

@@ -8,9 +8,6 @@ use crate::token::{Kind, Token};
 use crate::word::{kind_of_word, wide_len, word_len};
 use std::alloc::{AllocError, Global};
 
-/// The longest text that is read has one byte less.
-pub const TOO_LONG: usize = 0x8000_0000;
-
 /// What is left of a text.
 #[derive(Drop)]
 struct Scanner<'a> {

@@ -1,10 +1,9 @@
-//! Reading of JavaScript core text.
+//! The parser of core text.
 #![tactic(auto)]
 
 mod contexts;
 mod control;
 mod cursor;
-mod error;
 mod exports;
 mod expression;
 mod function;
@@ -15,12 +14,11 @@ mod module;
 mod names;
 mod object;
 mod operators;
+mod parse;
 mod primary;
-mod read;
 mod scopes;
 mod statement;
 mod targets;
 
-pub use error::ReadError;
-pub use read::{read_expr, read_module, read_script};
-pub use swc_lexer::Construct;
+pub use parse::{parse_expr, parse_module, parse_script};
+pub use swc_lexer::{Construct, Fault};

@@ -1,61 +1,19 @@
-//! Reading a text.
-ghost use Rattle.std.specs.Prelude.{◌≤◌, ◌<◌, ◌^◌, ◌↔◌, length};
-ghost use Rattle.std.specs.Result.{IsErrOf};
+//! Parsing of a text.
+ghost use Rattle.std.specs.Prelude.{◌<◌, ◌^◌, length};
 
 use crate::contexts::Contexts;
 use crate::cursor::{Parser, ROOM};
-use crate::error::{ReadError, told};
 use crate::scopes::{ScopeKind, Scopes};
 use std::alloc::Global;
 use swc_ast::{Expr, Mark, Module, ModuleItem, Script, Span, Stmt, SyntaxContext};
-use swc_lexer::{Fault, Kind, TOO_LONG, tokenize};
+use swc_lexer::{Fault, Kind, tokenize};
 
-/// Reads a module (ECMA-262, 16.2) of core text. A span is a node's first and past-last byte plus 1.
+/// A module (ECMA-262, 16.2), by its text of less than 2^31 bytes. A span is a node's first and past-last byte plus 1.
 ///
 /// The k-th scope that the text opens gives its names the context of the mark's number plus k, where numbers past 2^31 - 1 go on
 /// at 1: so no two scopes share one, and none has the mark's. Scopes are the module, each function, a function expression's own
 /// name, a body whose parameters have a default, each block, `for`, `switch` and `catch`. Other names have the mark's context.
-pub fn read_module(alloc: Global, text: &str, unresolved_mark: Mark) -> Result<Module, ReadError>
-    ensures too_long { IsErrOf result ReadError.TooLong ↔ 2 ^ 31 ≤ length text.now }
-{
-    if text.len() >= TOO_LONG {
-        return Err(ReadError::TooLong);
-    }
-    match module(alloc, text, unresolved_mark) {
-        Ok(read) => Ok(read),
-        Err(fault) => Err(told(fault)),
-    }
-}
-
-/// Reads a script (ECMA-262, 16.1) of core text as strict code. Spans, contexts and errors are those of `read_module`; the
-/// script is the first scope.
-pub fn read_script(alloc: Global, text: &str, unresolved_mark: Mark) -> Result<Script, ReadError>
-    ensures too_long { IsErrOf result ReadError.TooLong ↔ 2 ^ 31 ≤ length text.now }
-{
-    if text.len() >= TOO_LONG {
-        return Err(ReadError::TooLong);
-    }
-    match script(alloc, text, unresolved_mark) {
-        Ok(read) => Ok(read),
-        Err(fault) => Err(told(fault)),
-    }
-}
-
-/// Reads a text that is one expression (ECMA-262, 13.16) of module code. Spans, contexts and errors are those of `read_module`,
-/// but for the scope of the module, which is not opened.
-pub fn read_expr(alloc: Global, text: &str, unresolved_mark: Mark) -> Result<Expr, ReadError>
-    ensures too_long { IsErrOf result ReadError.TooLong ↔ 2 ^ 31 ≤ length text.now }
-{
-    if text.len() >= TOO_LONG {
-        return Err(ReadError::TooLong);
-    }
-    match expr(alloc, text, unresolved_mark) {
-        Ok(read) => Ok(read),
-        Err(fault) => Err(told(fault)),
-    }
-}
-
-fn module(alloc: Global, text: &str, mark: Mark) -> Result<Module, Fault>
+pub fn parse_module(alloc: Global, text: &str, mark: Mark) -> Result<Module, Fault>
     requires { length text.now < 2 ^ 31 }
 {
     let tokens = tokenize(alloc, text)?;
@@ -79,7 +37,9 @@ fn module(alloc: Global, text: &str, mark: Mark) -> Result<Module, Fault>
     })
 }
 
-fn script(alloc: Global, text: &str, mark: Mark) -> Result<Script, Fault>
+/// A script (ECMA-262, 16.1) of strict code, by its text. Spans and contexts are those of `parse_module`; the script is the first
+/// scope.
+pub fn parse_script(alloc: Global, text: &str, mark: Mark) -> Result<Script, Fault>
     requires { length text.now < 2 ^ 31 }
 {
     let tokens = tokenize(alloc, text)?;
@@ -102,7 +62,9 @@ fn script(alloc: Global, text: &str, mark: Mark) -> Result<Script, Fault>
     })
 }
 
-fn expr(alloc: Global, text: &str, mark: Mark) -> Result<Expr, Fault>
+/// An expression (ECMA-262, 13.16) of module code, by its text. Spans and contexts are those of `parse_module`, but for the scope
+/// of the module, which is not opened.
+pub fn parse_expr(alloc: Global, text: &str, mark: Mark) -> Result<Expr, Fault>
     requires { length text.now < 2 ^ 31 }
 {
     let tokens = tokenize(alloc, text)?;

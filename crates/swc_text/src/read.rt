@@ -1,0 +1,56 @@
+//! Reading a text.
+ghost use Rattle.std.specs.Prelude.{◌≤◌, ◌^◌, ◌↔◌, length};
+ghost use Rattle.std.specs.Result.{IsErrOf};
+
+use crate::error::{ReadError, told};
+use std::alloc::Global;
+use swc_ast::{Expr, Mark, Module, Script};
+use swc_parser::{parse_expr, parse_module, parse_script};
+
+/// 2^31, in bytes
+const TOO_LONG: usize = 0x8000_0000;
+
+/// Reads a module (ECMA-262, 16.2) of core text. A span is a node's first and past-last byte plus 1.
+///
+/// The k-th scope that the text opens gives its names the context of the mark's number plus k, where numbers past 2^31 - 1 go on
+/// at 1: so no two scopes share one, and none has the mark's. Scopes are the module, each function, a function expression's own
+/// name, a body whose parameters have a default, each block, `for`, `switch` and `catch`. Other names have the mark's context.
+pub fn read_module(alloc: Global, text: &str, unresolved_mark: Mark) -> Result<Module, ReadError>
+    ensures too_long { IsErrOf result ReadError.TooLong ↔ 2 ^ 31 ≤ length text.now }
+{
+    if text.len() >= TOO_LONG {
+        return Err(ReadError::TooLong);
+    }
+    match parse_module(alloc, text, unresolved_mark) {
+        Ok(read) => Ok(read),
+        Err(fault) => Err(told(fault)),
+    }
+}
+
+/// Reads a script (ECMA-262, 16.1) of core text as strict code. Spans, contexts and errors are those of `read_module`; the
+/// script is the first scope.
+pub fn read_script(alloc: Global, text: &str, unresolved_mark: Mark) -> Result<Script, ReadError>
+    ensures too_long { IsErrOf result ReadError.TooLong ↔ 2 ^ 31 ≤ length text.now }
+{
+    if text.len() >= TOO_LONG {
+        return Err(ReadError::TooLong);
+    }
+    match parse_script(alloc, text, unresolved_mark) {
+        Ok(read) => Ok(read),
+        Err(fault) => Err(told(fault)),
+    }
+}
+
+/// Reads a text that is one expression (ECMA-262, 13.16) of module code. Spans, contexts and errors are those of `read_module`,
+/// but for the scope of the module, which is not opened.
+pub fn read_expr(alloc: Global, text: &str, unresolved_mark: Mark) -> Result<Expr, ReadError>
+    ensures too_long { IsErrOf result ReadError.TooLong ↔ 2 ^ 31 ≤ length text.now }
+{
+    if text.len() >= TOO_LONG {
+        return Err(ReadError::TooLong);
+    }
+    match parse_expr(alloc, text, unresolved_mark) {
+        Ok(read) => Ok(read),
+        Err(fault) => Err(told(fault)),
+    }
+}
