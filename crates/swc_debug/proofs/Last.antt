@@ -1,7 +1,7 @@
 -- The last child of a node, as a loop over the children comes to it.
-use Rattle.std.proofs.Common.{◌≡◌, Bool, true, false, refl, ap, ◌∙◌, sym}
+use Rattle.std.proofs.Common.{◌≡◌, Bool, false, refl, ap, ◌∙◌, sym}
 use Rattle.std.specs.Prelude.{not}
-use Rattle.swc_ast.specs.Tree.{Tree, node, Forest, ε, ◌⊳◌}
+use Rattle.swc_ast.specs.Tree.{Tree, Forest, ε, ◌⊳◌}
 use Rattle.swc_ast.specs.Valid.{is_absent, is_listed, is_last_absent, last_not_listed}
 
 -- what holds of the last of some children behind one of which it is told
