@@ -1,14 +1,13 @@
 -- Sums that stop at the greatest number of 64 bits, and how large trees are.
-use Rattle.std.proofs.Common.{◌≡◌, ℕ, suc, ◌+◌, ◌-◌, ◌*◌, ◌^◌, ◌<◌, ◌≤◌, min, refl, sym, ap, ◌∙◌, arith, List, [], ◌∷◌, map, length}
+use Rattle.std.proofs.Common.{◌≡◌, ℕ, suc, ◌+◌, ◌-◌, ◌^◌, ◌<◌, ◌≤◌, min, refl, sym, ap, ◌∙◌, arith, List, [], ◌∷◌, map, length}
 use Rattle.std.specs.Prelude.{Option}
 use Rattle.swc_ast.specs.Tree.{Label, Tree, node, Forest, ε, ◌⊳◌}
 use Rattle.swc_ast.specs.Expressions.{item_kind}
 use Rattle.swc_ast.specs.Weight.{weight, weight_all, items_weight, movable}
 use Rattle.swc_ast.specs.declared.expressions.Expr.{Expr}
 use Rattle.swc_ast.specs.declared.expressions.ExprOrSpread.{ExprOrSpread}
-use Rattle.swc_visit.specs.Nodes.{Opens, label_of, children_of, children_forest}
+use Rattle.swc_visit.specs.Nodes.{label_of, children_of}
 use Rattle.swc_visit.specs.Classes.{weight_without_children}
-use Rattle.swc_visit.specs.declared.opened.Opened.{Opened}
 
 abbrev mutual
   pub tree_size : Tree → ℕ

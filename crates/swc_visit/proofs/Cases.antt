@@ -1,5 +1,5 @@
 -- A case of a switch: its test and its statements.
-use Rattle.std.proofs.Common.{◌≡◌, List, [], ◌∷◌, map, ap, sym, ◌∙◌}
+use Rattle.std.proofs.Common.{◌≡◌, List, [], ◌∷◌, map, ap, ◌∙◌}
 use Rattle.swc_ast.specs.Tree.{CaseBody, Tree, node, Forest, ◌⊳◌}
 use Rattle.swc_ast.specs.Parts.{tree_or_absent, list_trees}
 use Rattle.swc_ast.specs.Statements.{CaseTrees, case_children}

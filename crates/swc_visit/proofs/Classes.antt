@@ -1,5 +1,5 @@
 -- What the class of a tree's label says of the tree.
-use Rattle.std.proofs.Common.{◌≡◌, ℕ, Bool, true, false, refl}
+use Rattle.std.proofs.Common.{◌≡◌, Bool, true, false, refl}
 use Rattle.swc_ast.specs.Tree as tree
 use Rattle.swc_ast.specs.Tree.{Tree, node, Forest, ε, ◌⊳◌}
 use Rattle.swc_ast.specs.Weight.{is_stopper, is_stopper_label, stays_behind, stays_label, is_truth_or_absent, test_weight, list_weight}

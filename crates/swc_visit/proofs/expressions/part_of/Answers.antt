@@ -1,5 +1,4 @@
 use Rattle.std.proofs.Common.{ap, ◌∙◌}
-use Rattle.swc_ast.specs.Views.{expr_tree}
 use Rattle.swc_ast.proofs.Places.{at_expr-Unary, at_expr-Call}
 use Rattle.swc_visit.specs.Nodes.{is_part_label, label_of}
 use Rattle.swc_visit.proofs.Parts.{call_no_part, unary_no_part}

@@ -1,4 +1,4 @@
-use Rattle.std.proofs.Common.{rules, arith}
+use Rattle.std.proofs.Common.{arith}
 use Rattle.swc_visit.proofs.Caps.{items_end}
 use Rattle.swc_visit.proofs.weights.items_weight.Goals as goal
 

@@ -1,0 +1,116 @@
+//! Words: texts that may stand as names.
+ghost use Rattle.std.specs.Prelude.{◌≡◌, map};
+ghost use Rattle.swc_ast.specs.Operators.{is_among as is_among_texts};
+ghost use Rattle.swc_ast.specs.Valid.{is_letter as is_letter_code, is_part as is_part_code, all_parts as all_part_codes, is_word as is_word_text, is_identifier as is_identifier_text, reserved_words};
+
+/// The reserved words of module code (ECMA-262, 12.7.2).
+static RESERVED: [&str; 46] = [
+    "await",
+    "break",
+    "case",
+    "catch",
+    "class",
+    "const",
+    "continue",
+    "debugger",
+    "default",
+    "delete",
+    "do",
+    "else",
+    "enum",
+    "export",
+    "extends",
+    "false",
+    "finally",
+    "for",
+    "function",
+    "if",
+    "implements",
+    "import",
+    "in",
+    "instanceof",
+    "interface",
+    "let",
+    "new",
+    "null",
+    "package",
+    "private",
+    "protected",
+    "public",
+    "return",
+    "static",
+    "super",
+    "switch",
+    "this",
+    "throw",
+    "true",
+    "try",
+    "typeof",
+    "var",
+    "void",
+    "while",
+    "with",
+    "yield",
+];
+
+/// Whether a text may stand as a name: a word that is not reserved.
+#[tactic(auto, unfolding(swc_ast::specs::Valid::is_identifier))]
+pub(crate) fn is_identifier(text: &str) -> bool
+    ensures { result ≡ is_identifier_text text.now }
+{
+    is_word(text) && !is_reserved(text)
+}
+
+/// Whether a text is of ASCII letters, digits, `_` and `$`, with no digit first.
+pub(crate) fn is_word(text: &str) -> bool
+    ensures { result ≡ is_word_text text.now }
+{
+    match text.as_bytes() {
+        [] => false,
+        [first, rest @ ..] => is_letter(*first) && all_parts(rest),
+    }
+}
+
+fn is_letter(byte: u8) -> bool
+    ensures { result ≡ is_letter_code byte }
+{
+    (65 <= byte && byte <= 90) || (97 <= byte && byte <= 122) || byte == 95 || byte == 36
+}
+
+fn is_part(byte: u8) -> bool
+    ensures { result ≡ is_part_code byte }
+{
+    is_letter(byte) || (48 <= byte && byte <= 57)
+}
+
+fn all_parts(bytes: &[u8]) -> bool
+    ensures { result ≡ all_part_codes bytes.now }
+{
+    let mut left = bytes;
+    while let [byte, rest @ ..] = left {
+        if !is_part(*byte) {
+            return false;
+        }
+        left = rest;
+    }
+    true
+}
+
+fn is_reserved(text: &str) -> bool
+    ensures { result ≡ is_among_texts text.now reserved_words }
+{
+    is_among(text, &RESERVED)
+}
+
+fn is_among(text: &str, words: &[&str]) -> bool
+    ensures { result ≡ is_among_texts text.now (map (λ w. w.now) words.now) }
+{
+    let mut left = words;
+    while let [word, rest @ ..] = left {
+        if text == *word {
+            return true;
+        }
+        left = rest;
+    }
+    false
+}
