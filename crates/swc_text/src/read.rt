@@ -1,10 +1,14 @@
 //! Reading a text.
-ghost use Rattle.std.specs.Prelude.{◌≤◌, ◌^◌, ◌↔◌, length};
+ghost use Rattle.std.specs.Prelude.{◌≡◌, ◌≢◌, ◌≤◌, ◌^◌, ◌↔◌, true, length, IfOk, IfErr};
 ghost use Rattle.std.specs.Result.{IsErrOf};
+ghost use Rattle.swc_ast.specs.Modules.{module_tree, script_tree};
+ghost use Rattle.swc_ast.specs.Valid.{valid};
+ghost use Rattle.swc_text.specs.declared.error.ReadError.TheVariants.{TooLong};
 
 use crate::error::{ReadError, told};
 use std::alloc::Global;
 use swc_ast::{Expr, Mark, Module, Script};
+use swc_debug::{is_script_valid, is_valid};
 use swc_parser::{parse_expr, parse_module, parse_script};
 
 /// 2^31, in bytes
@@ -16,28 +20,54 @@ const TOO_LONG: usize = 0x8000_0000;
 /// at 1: so no two scopes share one, and none has the mark's. Scopes are the module, each function, a function expression's own
 /// name, a body whose parameters have a default, each block, `for`, `switch` and `catch`. Other names have the mark's context.
 pub fn read_module(alloc: Global, text: &str, unresolved_mark: Mark) -> Result<Module, ReadError>
+    ensures valid { IfOk result (λ m. valid (module_tree m) ≡ true) }
     ensures too_long { IsErrOf result ReadError.TooLong ↔ 2 ^ 31 ≤ length text.now }
 {
     if text.len() >= TOO_LONG {
         return Err(ReadError::TooLong);
     }
     match parse_module(alloc, text, unresolved_mark) {
-        Ok(read) => Ok(read),
+        Ok(read) => checked_module(read),
         Err(fault) => Err(told(fault)),
+    }
+}
+
+/// A module that was parsed: it is valid, and the test lets that be known.
+fn checked_module(read: Module) -> Result<Module, ReadError>
+    ensures valid { IfOk result (λ m. valid (module_tree m) ≡ true) }
+    ensures refused { IfErr result (λ e. e ≢ TooLong) }
+{
+    if is_valid(&read) {
+        Ok(read)
+    } else {
+        Err(ReadError::Syntax { at: 0 })
     }
 }
 
 /// Reads a script (ECMA-262, 16.1) of core text as strict code. Spans, contexts and errors are those of `read_module`; the
 /// script is the first scope.
 pub fn read_script(alloc: Global, text: &str, unresolved_mark: Mark) -> Result<Script, ReadError>
+    ensures valid { IfOk result (λ s. valid (script_tree s) ≡ true) }
     ensures too_long { IsErrOf result ReadError.TooLong ↔ 2 ^ 31 ≤ length text.now }
 {
     if text.len() >= TOO_LONG {
         return Err(ReadError::TooLong);
     }
     match parse_script(alloc, text, unresolved_mark) {
-        Ok(read) => Ok(read),
+        Ok(read) => checked_script(read),
         Err(fault) => Err(told(fault)),
+    }
+}
+
+/// The same of a script.
+fn checked_script(read: Script) -> Result<Script, ReadError>
+    ensures valid { IfOk result (λ s. valid (script_tree s) ≡ true) }
+    ensures refused { IfErr result (λ e. e ≢ TooLong) }
+{
+    if is_script_valid(&read) {
+        Ok(read)
+    } else {
+        Err(ReadError::Syntax { at: 0 })
     }
 }
 
