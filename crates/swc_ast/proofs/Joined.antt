@@ -1,5 +1,5 @@
 -- What a node's parts tell together, in the order in which `same` asks.
-use Rattle.std.proofs.Common.{◌≡◌, refl, sym, ap, ◌∙◌, Bool, true, false, ◌&&◌}
+use Rattle.std.proofs.Common.{◌≡◌, refl, ap, ◌∙◌, Bool, true, false, ◌&&◌}
 
 -- nothing more follows
 pub ends : (a : Bool) → a ≡ (a && true)

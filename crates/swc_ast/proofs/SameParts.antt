@@ -2,17 +2,16 @@
 use Rattle.std.proofs.Common.{◌≡◌, refl, sym, ap, ◌∙◌, Bool, true, false, ◌&&◌, ◌||◌, List, [], ◌∷◌, map, length, ◌<◌, ◌≤◌, ◌+◌, drop, get_or, subst}
 use Rattle.std.proofs.lemmas.List.{drop_more, drop_all}
 use Rattle.std.specs.Prelude.{ℕ, not, Option, Some, None, bytes_eq}
-use Rattle.std.specs.declared.alloc.Global.{Global}
-use Rattle.std.specs.declared.boxed.Box.{Box}
 use Rattle.std.specs.Cmp.Lexicographic.{pointwise}
 use Rattle.swc_ast.specs.Tree as tree
 use Rattle.swc_ast.specs.Tree.{same_name, Tree, node, Forest, ε, ◌⊳◌}
-use Rattle.swc_ast.specs.Parts.{leaf, absent, list_trees, optional_trees, lit_tree, ident_name, ident_tree, word_text}
-use Rattle.swc_ast.specs.Expressions.{element_node, target_tree, member_tree, member_node, member_update, member_assign, param_tree, assign_node, update_node, key_tree, item_kind, item_spans, item_trees, element_tree, quasi_text, quasi_span}
+use Rattle.swc_ast.specs.Parts.{leaf, absent, list_trees, optional_trees, lit_tree, ident_name, ident_tree, word_text, option_ident_name, option_ident_spans}
+use Rattle.swc_ast.specs.Expressions.{element_node, target_tree, member_node, member_update, member_assign, assign_node, update_node, key_tree, spread_kind, with_span, item_kind, item_spans, item_trees, element_tree, quasi_text, quasi_span}
 use Rattle.swc_ast.specs.Statements.{declarator_tree, block_tree, option_block_tree, handler_param, handler_spans, handler_tree}
 use Rattle.swc_ast.specs.Nodes.{key_of_member, init_node, option_handler_node}
-use Rattle.swc_ast.proofs.Truths.{spans-both, never-then, never, never-here, member-dot, member-index, assign-name, assign-dot, assign-index, update-name, update-dot, update-index, try-plain, try-handler, item-next, item-plain, item-spread, quasi-next, quasi-one}
-use Rattle.swc_ast.specs.Same.{same, same_forest, same_label, same_spans, same_span, same_assign, same_update, same_unary, same_kind, same_item, same_quasi}
+use Rattle.swc_ast.proofs.Truths.{spans-both, never-then, never, member-dot, member-index, assign-name, assign-dot, assign-index, update-name, update-dot, update-index, try-plain, try-handler, array-parts, item-plain, item-spread, quasi-more, tpl-parts}
+use Rattle.swc_ast.specs.Same.{same, same_forest, same_label, same_spans, same_span, same_assign, same_update, same_kind, same_item, same_quasi, same_option}
+use Rattle.std.specs.Bool.{beq}
 use Rattle.swc_ast.proofs.SameTrees.{impossible}
 use Rattle.swc_ast.specs.declared.Span.{Span}
 use Rattle.swc_ast.specs.declared.literals.Lit.{Lit}
@@ -35,7 +34,6 @@ use Rattle.swc_ast.specs.declared.statements.VarDeclOrExpr.{VarDeclOrExpr}
 use Rattle.swc_ast.specs.declared.statements.VarDeclOrExpr.TheVariants as init
 use Rattle.swc_ast.specs.declared.expressions.MemberProp.{MemberProp}
 use Rattle.swc_ast.specs.declared.expressions.MemberProp.TheVariants as prop
-use Rattle.swc_ast.specs.declared.expressions.MemberExpr.{MemberExpr}
 
 -- a function of two values that are known
 pub two-at : {A B C : Type 0} (F : A → B → C) {a x : A} {b y : B} → a ≡ x → b ≡ y → F x y ≡ F a b
@@ -228,3 +226,73 @@ var-same {X = X} f s k l a b xs ys = by (same_kind k l) refl
     by : (e : Bool) → same_kind k l ≡ e → ((same_kind k l && same_spans s (a ∷ []) (b ∷ [])) && same_forest s (list_trees (declarator_tree f kind.Var) xs) (list_trees (declarator_tree f kind.Var) ys)) ≡ (same_kind k l && (same_spans s (a ∷ []) (b ∷ []) && same_forest s (list_trees (declarator_tree f k) xs) (list_trees (declarator_tree f l) ys)))
     by true is = ap (λ r. (same_kind k l && same_spans s (a ∷ []) (b ∷ [])) && r) (of-kind f s k l xs ys is) ∙ grouped (same_kind k l) (same_spans s (a ∷ []) (b ∷ [])) (same_forest s (list_trees (declarator_tree f k) xs) (list_trees (declarator_tree f l) ys))
     by false is = ap (λ e. (e && same_spans s (a ∷ []) (b ∷ [])) && same_forest s (list_trees (declarator_tree f kind.Var) xs) (list_trees (declarator_tree f kind.Var) ys)) is ∙ sym (ap (λ e. e && (same_spans s (a ∷ []) (b ∷ []) && same_forest s (list_trees (declarator_tree f k) xs) (list_trees (declarator_tree f l) ys))) is)
+
+-- an update by its target, as if that was read
+pub update-same : {X : Type 0} (f : X → Tree) (s : Bool) (o p : UpdateOp) (h k : Bool) (a b : Span) (t u : AssignTarget X) → (((same_update o p && beq h k) && same_spans s (a ∷ []) (b ∷ [])) && same s (target_tree f t) (target_tree f u)) ≡ same s (update_node f o h a t) (update_node f p k b u)
+unfolding same same_label
+update-same f s o p h k a b (target.Ident x) (target.Ident y) = update-name (same_update o p && beq h k) (same_spans s (a ∷ []) (b ∷ [])) (same_name (ident_name x) (ident_name y)) (same_spans s (x.span ∷ []) (y.span ∷ [])) ∙ ap (λ z. ((same_update o p && beq h k) && same_name (ident_name x) (ident_name y)) && (z && true)) (sym (first_span s a b (x.span ∷ []) (y.span ∷ [])))
+update-same {X = X} f s o p h k a b (target.Ident x) (target.Member n) = other n.span n.obj.value n.prop
+  where
+    other : (c : Span) (u : X) (q : MemberProp X) → (((same_update o p && beq h k) && same_spans s (a ∷ []) (b ∷ [])) && same s (ident_tree x) (member_node f c u q)) ≡ same s (node (tree.Update o h (ident_name x)) (a ∷ x.span ∷ []) ε) (member_update f p k b c u q)
+    other c u (prop.Ident j) = sym (never ((same_update o p && beq h k) && same_spans s (a ∷ []) (b ∷ [])))
+    other c u (prop.Computed d) = sym (never ((same_update o p && beq h k) && same_spans s (a ∷ []) (b ∷ [])))
+update-same {X = X} f s o p h k a b (target.Member m) (target.Ident y) = other m.span m.obj.value m.prop
+  where
+    other : (c : Span) (u : X) (q : MemberProp X) → (((same_update o p && beq h k) && same_spans s (a ∷ []) (b ∷ [])) && same s (member_node f c u q) (ident_tree y)) ≡ same s (member_update f o h a c u q) (node (tree.Update p k (ident_name y)) (b ∷ y.span ∷ []) ε)
+    other c u (prop.Ident j) = sym (never ((same_update o p && beq h k) && same_spans s (a ∷ []) (b ∷ [])))
+    other c u (prop.Computed d) = sym (never ((same_update o p && beq h k) && same_spans s (a ∷ []) (b ∷ [])))
+update-same {X = X} f s o p h k a b (target.Member m) (target.Member n) = members m.span n.span m.obj.value n.obj.value m.prop n.prop
+  where
+    members : (c d : Span) (t u : X) (q r : MemberProp X) → (((same_update o p && beq h k) && same_spans s (a ∷ []) (b ∷ [])) && same s (member_node f c t q) (member_node f d u r)) ≡ same s (member_update f o h a c t q) (member_update f p k b d u r)
+    members c d t u (prop.Ident i) (prop.Ident j) = update-dot (same_update o p && beq h k) (same_spans s (a ∷ []) (b ∷ [])) (bytes_eq (word_text i) (word_text j)) (same_spans s (c ∷ i.span ∷ []) (d ∷ j.span ∷ [])) (same s (f t) (f u)) ∙ ap (λ z. ((same_update o p && beq h k) && bytes_eq (word_text i) (word_text j)) && (z && (same s (f t) (f u) && true))) (sym (first_span s a b (c ∷ i.span ∷ []) (d ∷ j.span ∷ [])))
+    members c d t u (prop.Ident i) (prop.Computed j) = sym (never ((same_update o p && beq h k) && same_spans s (a ∷ []) (b ∷ [])))
+    members c d t u (prop.Computed i) (prop.Ident j) = sym (never ((same_update o p && beq h k) && same_spans s (a ∷ []) (b ∷ [])))
+    members c d t u (prop.Computed i) (prop.Computed j) = update-index (same_update o p && beq h k) (same_spans s (a ∷ []) (b ∷ [])) (same_spans s (c ∷ i.span ∷ []) (d ∷ j.span ∷ [])) (same s (f t) (f u)) (same s (f i.expr.value) (f j.expr.value)) ∙ ap (λ z. (same_update o p && beq h k) && (z && (same s (f t) (f u) && (same s (f i.expr.value) (f j.expr.value) && true)))) (sym (first_span s a b (c ∷ i.span ∷ []) (d ∷ j.span ∷ [])))
+
+-- the texts of a template, by all of their labels and all of their spans
+pub quasis-same : (s : Bool) (xs ys : List TplElement) → same_forest s (list_trees (λ n. leaf (tree.Template (quasi_text n ∷ [])) n.span) xs) (list_trees (λ n. leaf (tree.Template (quasi_text n ∷ [])) n.span) ys) ≡ (pointwise same_quasi (map quasi_text xs) (map quasi_text ys) && same_spans s (map quasi_span xs) (map quasi_span ys))
+unfolding same same_label
+quasis-same s [] [] = refl
+quasis-same s [] (y ∷ ys) = refl
+quasis-same s (x ∷ xs) [] = refl
+quasis-same s (x ∷ xs) (y ∷ ys) = ap (λ r. ((same_quasi (quasi_text x) (quasi_text y) && true) && (same_spans s (x.span ∷ []) (y.span ∷ []) && true)) && r) (quasis-same s xs ys) ∙ quasi-more (same_quasi (quasi_text x) (quasi_text y)) (same_spans s (x.span ∷ []) (y.span ∷ [])) (pointwise same_quasi (map quasi_text xs) (map quasi_text ys)) (same_spans s (map quasi_span xs) (map quasi_span ys)) ∙ ap (λ z. (same_quasi (quasi_text x) (quasi_text y) && pointwise same_quasi (map quasi_text xs) (map quasi_text ys)) && z) (sym (first_span s x.span y.span (map quasi_span xs) (map quasi_span ys)))
+
+-- a template by its span, its texts and its expressions
+pub tpl-same : (s : Bool) (a b : Span) (xs ys : List TplElement) (ts us : Forest) → ((same_spans s (a ∷ []) (b ∷ []) && same_forest s (list_trees (λ n. leaf (tree.Template (quasi_text n ∷ [])) n.span) xs) (list_trees (λ n. leaf (tree.Template (quasi_text n ∷ [])) n.span) ys)) && same_forest s ts us) ≡ (pointwise same_quasi (map quasi_text xs) (map quasi_text ys) && (same_spans s (a ∷ map quasi_span xs) (b ∷ map quasi_span ys) && same_forest s ts us))
+tpl-same s a b xs ys ts us = ap (λ r. (same_spans s (a ∷ []) (b ∷ []) && r) && same_forest s ts us) (quasis-same s xs ys) ∙ tpl-parts (same_spans s (a ∷ []) (b ∷ [])) (pointwise same_quasi (map quasi_text xs) (map quasi_text ys)) (same_spans s (map quasi_span xs) (map quasi_span ys)) (same_forest s ts us) ∙ ap (λ z. pointwise same_quasi (map quasi_text xs) (map quasi_text ys) && (z && same_forest s ts us)) (sym (first_span s a b (map quasi_span xs) (map quasi_span ys)))
+
+-- a `try` by its blocks and its handler
+pub try-same : {X : Type 0} (f : X → Tree) (s : Bool) (a b : Span) (m n : BlockStmt X) (h k : Option (CatchClause X)) (d e : Option (BlockStmt X)) → (((same_spans s (a ∷ []) (b ∷ []) && same s (block_tree f m) (block_tree f n)) && same s (option_handler_node f h) (option_handler_node f k)) && same s (option_block_tree f d) (option_block_tree f e)) ≡ same s (node (tree.Try (handler_param h)) (a ∷ handler_spans h) (block_tree f m ⊳ handler_tree f h ⊳ option_block_tree f d ⊳ ε)) (node (tree.Try (handler_param k)) (b ∷ handler_spans k) (block_tree f n ⊳ handler_tree f k ⊳ option_block_tree f e ⊳ ε))
+unfolding same same_label
+try-same f s a b m n None None d e = try-plain (same_spans s (a ∷ []) (b ∷ [])) (same s (block_tree f m) (block_tree f n)) (same s (option_block_tree f d) (option_block_tree f e))
+try-same f s a b m n None (Some k) d e = sym (never-then (same_spans s (a ∷ []) (b ∷ []) && same s (block_tree f m) (block_tree f n)) (same s (option_block_tree f d) (option_block_tree f e)))
+try-same f s a b m n (Some h) None d e = sym (never-then (same_spans s (a ∷ []) (b ∷ []) && same s (block_tree f m) (block_tree f n)) (same s (option_block_tree f d) (option_block_tree f e)))
+try-same f s a b m n (Some h) (Some k) d e = try-handler (same_spans s (a ∷ []) (b ∷ [])) (same s (block_tree f m) (block_tree f n)) (same_option same_name (option_ident_name h.param) (option_ident_name k.param)) (same_spans s (h.span ∷ option_ident_spans h.param) (k.span ∷ option_ident_spans k.param)) (same s (block_tree f h.body) (block_tree f k.body)) (same s (option_block_tree f d) (option_block_tree f e)) ∙ ap (λ z. same_option same_name (option_ident_name h.param) (option_ident_name k.param) && (z && (same s (block_tree f m) (block_tree f n) && (same s (block_tree f h.body) (block_tree f k.body) && (same s (option_block_tree f d) (option_block_tree f e) && true))))) (sym (first_span s a b (h.span ∷ option_ident_spans h.param) (k.span ∷ option_ident_spans k.param)))
+
+-- the items of an array one by one, and all of their kinds, spans and children
+pub items-same : {X : Type 0} (f : X → Tree) (s : Bool) (xs ys : List (Option (ExprOrSpread X))) → same_forest s (list_trees (element_tree f) xs) (list_trees (element_tree f) ys) ≡ (pointwise same_item (map item_kind xs) (map item_kind ys) && (same_spans s (item_spans xs) (item_spans ys) && same_forest s (item_trees f xs) (item_trees f ys)))
+unfolding same same_label
+items-same f s [] [] = refl
+items-same f s [] (y ∷ ys) = refl
+items-same f s (x ∷ xs) [] = refl
+items-same f s (None ∷ xs) (None ∷ ys) = items-same f s xs ys
+items-same f s (None ∷ xs) (Some n ∷ ys) = holes n.spread (f n.expr.value)
+  where
+    holes : (o : Option Span) (u : Tree) → (same s (node (tree.Array (tree.Hole ∷ [])) [] ε) (element_node o u) && same_forest s (list_trees (element_tree f) xs) (list_trees (element_tree f) ys)) ≡ ((same_item tree.Hole (spread_kind o) && pointwise same_item (map item_kind xs) (map item_kind ys)) && (same_spans s (item_spans xs) (with_span o (item_spans ys)) && same_forest s (item_trees f xs) (u ⊳ item_trees f ys)))
+    holes None u = refl
+    holes (Some p) u = refl
+items-same f s (Some m ∷ xs) (None ∷ ys) = holes m.spread (f m.expr.value)
+  where
+    holes : (o : Option Span) (u : Tree) → (same s (element_node o u) (node (tree.Array (tree.Hole ∷ [])) [] ε) && same_forest s (list_trees (element_tree f) xs) (list_trees (element_tree f) ys)) ≡ ((same_item (spread_kind o) tree.Hole && pointwise same_item (map item_kind xs) (map item_kind ys)) && (same_spans s (with_span o (item_spans xs)) (item_spans ys) && same_forest s (u ⊳ item_trees f xs) (item_trees f ys)))
+    holes None u = refl
+    holes (Some p) u = refl
+items-same f s (Some m ∷ xs) (Some n ∷ ys) = some m.spread n.spread (f m.expr.value) (f n.expr.value) (items-same f s xs ys)
+  where
+    some : (o p : Option Span) (t u : Tree) → same_forest s (list_trees (element_tree f) xs) (list_trees (element_tree f) ys) ≡ (pointwise same_item (map item_kind xs) (map item_kind ys) && (same_spans s (item_spans xs) (item_spans ys) && same_forest s (item_trees f xs) (item_trees f ys))) → (same s (element_node o t) (element_node p u) && same_forest s (list_trees (element_tree f) xs) (list_trees (element_tree f) ys)) ≡ ((same_item (spread_kind o) (spread_kind p) && pointwise same_item (map item_kind xs) (map item_kind ys)) && (same_spans s (with_span o (item_spans xs)) (with_span p (item_spans ys)) && (same s t u && same_forest s (item_trees f xs) (item_trees f ys))))
+    some None None t u is = ap (λ r. (same s t u && true) && r) is ∙ item-plain (same s t u) (pointwise same_item (map item_kind xs) (map item_kind ys)) (same_spans s (item_spans xs) (item_spans ys)) (same_forest s (item_trees f xs) (item_trees f ys))
+    some None (Some p) t u is = refl
+    some (Some o) None t u is = refl
+    some (Some o) (Some p) t u is = ap (λ r. (same_spans s (o ∷ []) (p ∷ []) && (same s t u && true)) && r) is ∙ item-spread (same_spans s (o ∷ []) (p ∷ [])) (same s t u) (pointwise same_item (map item_kind xs) (map item_kind ys)) (same_spans s (item_spans xs) (item_spans ys)) (same_forest s (item_trees f xs) (item_trees f ys)) ∙ ap (λ z. pointwise same_item (map item_kind xs) (map item_kind ys) && (z && (same s t u && same_forest s (item_trees f xs) (item_trees f ys)))) (sym (first_span s o p (item_spans xs) (item_spans ys)))
+
+pub array-same : {X : Type 0} (f : X → Tree) (s : Bool) (a b : Span) (xs ys : List (Option (ExprOrSpread X))) → (same_spans s (a ∷ []) (b ∷ []) && same_forest s (list_trees (element_tree f) xs) (list_trees (element_tree f) ys)) ≡ (pointwise same_item (map item_kind xs) (map item_kind ys) && (same_spans s (a ∷ item_spans xs) (b ∷ item_spans ys) && same_forest s (item_trees f xs) (item_trees f ys)))
+array-same f s a b xs ys = ap (λ r. same_spans s (a ∷ []) (b ∷ []) && r) (items-same f s xs ys) ∙ array-parts (same_spans s (a ∷ []) (b ∷ [])) (pointwise same_item (map item_kind xs) (map item_kind ys)) (same_spans s (item_spans xs) (item_spans ys)) (same_forest s (item_trees f xs) (item_trees f ys)) ∙ ap (λ z. pointwise same_item (map item_kind xs) (map item_kind ys) && (z && same_forest s (item_trees f xs) (item_trees f ys))) (sym (first_span s a b (item_spans xs) (item_spans ys)))

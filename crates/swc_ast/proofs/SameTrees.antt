@@ -1,6 +1,6 @@
 -- What `same` says: with spans that two trees are equal, without them that they are equal up to spans.
-use Rattle.std.proofs.Common.{◌≡◌, refl, sym, ap, subst, ◌∙◌, Bool, true, false, ◌&&◌, ◌||◌, ◌==◌, List, [], ◌∷◌}
-use Rattle.std.specs.Prelude.{ℕ, ℤ, Option, Some, None, bytes_eq}
+use Rattle.std.proofs.Common.{◌≡◌, refl, sym, ap, ◌∙◌, Bool, true, false, ◌&&◌, ◌||◌, ◌==◌, List, [], ◌∷◌}
+use Rattle.std.specs.Prelude.{ℕ, Option, Some, None, bytes_eq}
 use Rattle.std.specs.Bool.{Decides, beq}
 use Rattle.std.specs.Ordering.{int_eq}
 use Rattle.std.specs.Cmp.{booleans_Decides, unsigned_Decides, signed_Decides, IsPartialEquivalence, IsEquivalence}
@@ -8,7 +8,7 @@ use Rattle.std.specs.Cmp.Lexicographic.{pointwise}
 use Rattle.std.proofs.lemmas.Slice.Eq.{bytes_eq-Decides}
 use Rattle.swc_ast.specs.Tree.{Text, Name, same_name, Key, NameKey, TextKey, NumberKey, ItemKind, Plain, Spread, Hole, Label, Tree, node, Forest, ε, ◌⊳◌, bare, bares}
 use Rattle.swc_ast.specs.Tree as tree
-use Rattle.swc_ast.specs.Same.{same_unary, same_update, same_binary, same_assign, same_kind, same_option, same_key, same_item, same_quasi, same_span, same_spans, same_label, same, same_forest}
+use Rattle.swc_ast.specs.Same.{same_unary, same_update, same_binary, same_assign, same_kind, same_option, same_key, same_item, same_quasi, same_span, same_label, same, same_forest}
 use Rattle.swc_ast.specs.declared.Span.{Span}
 use Rattle.swc_ast.specs.declared.UnaryOp.{UnaryOp}
 use Rattle.swc_ast.specs.declared.UnaryOp.TheVariants as unary

@@ -391,23 +391,23 @@ try-handler false false false false true false = refl
 try-handler false false false false false true = refl
 try-handler false false false false false false = refl
 
-pub item-next : (e k s f : Bool) → (e && (k && (s && f))) ≡ (k && (s && (e && f)))
-item-next true true true true = refl
-item-next true true true false = refl
-item-next true true false true = refl
-item-next true true false false = refl
-item-next true false true true = refl
-item-next true false true false = refl
-item-next true false false true = refl
-item-next true false false false = refl
-item-next false true true true = refl
-item-next false true true false = refl
-item-next false true false true = refl
-item-next false true false false = refl
-item-next false false true true = refl
-item-next false false true false = refl
-item-next false false false true = refl
-item-next false false false false = refl
+pub array-parts : (a k s f : Bool) → (a && (k && (s && f))) ≡ (k && ((a && s) && f))
+array-parts true true true true = refl
+array-parts true true true false = refl
+array-parts true true false true = refl
+array-parts true true false false = refl
+array-parts true false true true = refl
+array-parts true false true false = refl
+array-parts true false false true = refl
+array-parts true false false false = refl
+array-parts false true true true = refl
+array-parts false true true false = refl
+array-parts false true false true = refl
+array-parts false true false false = refl
+array-parts false false true true = refl
+array-parts false false true false = refl
+array-parts false false false true = refl
+array-parts false false false false = refl
 
 pub item-plain : (e k s f : Bool) → ((e && true) && (k && (s && f))) ≡ (k && (s && (e && f)))
 item-plain true true true true = refl
@@ -461,26 +461,38 @@ item-spread false false false true false = refl
 item-spread false false false false true = refl
 item-spread false false false false false = refl
 
-pub quasi-next : (q a t s : Bool) → ((q && (a && true)) && (t && s)) ≡ ((q && t) && (a && s))
-quasi-next true true true true = refl
-quasi-next true true true false = refl
-quasi-next true true false true = refl
-quasi-next true true false false = refl
-quasi-next true false true true = refl
-quasi-next true false true false = refl
-quasi-next true false false true = refl
-quasi-next true false false false = refl
-quasi-next false true true true = refl
-quasi-next false true true false = refl
-quasi-next false true false true = refl
-quasi-next false true false false = refl
-quasi-next false false true true = refl
-quasi-next false false true false = refl
-quasi-next false false false true = refl
-quasi-next false false false false = refl
+pub quasi-more : (q a t s : Bool) → (((q && true) && (a && true)) && (t && s)) ≡ ((q && t) && (a && s))
+quasi-more true true true true = refl
+quasi-more true true true false = refl
+quasi-more true true false true = refl
+quasi-more true true false false = refl
+quasi-more true false true true = refl
+quasi-more true false true false = refl
+quasi-more true false false true = refl
+quasi-more true false false false = refl
+quasi-more false true true true = refl
+quasi-more false true true false = refl
+quasi-more false true false true = refl
+quasi-more false true false false = refl
+quasi-more false false true true = refl
+quasi-more false false true false = refl
+quasi-more false false false true = refl
+quasi-more false false false false = refl
 
-pub quasi-one : (q a : Bool) → ((q && true) && (a && true)) ≡ (q && (a && true))
-quasi-one true true = refl
-quasi-one true false = refl
-quasi-one false true = refl
-quasi-one false false = refl
+pub tpl-parts : (a q s e : Bool) → ((a && (q && s)) && e) ≡ (q && ((a && s) && e))
+tpl-parts true true true true = refl
+tpl-parts true true true false = refl
+tpl-parts true true false true = refl
+tpl-parts true true false false = refl
+tpl-parts true false true true = refl
+tpl-parts true false true false = refl
+tpl-parts true false false true = refl
+tpl-parts true false false false = refl
+tpl-parts false true true true = refl
+tpl-parts false true true false = refl
+tpl-parts false true false true = refl
+tpl-parts false true false false = refl
+tpl-parts false false true true = refl
+tpl-parts false false true false = refl
+tpl-parts false false false true = refl
+tpl-parts false false false false = refl

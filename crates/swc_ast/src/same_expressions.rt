@@ -39,6 +39,14 @@ impl<E: EqIgnoreSpan> EqIgnoreSpan for Option<ExprOrSpread<E>> {
     }
 }
 
+impl<E: EqIgnoreSpan> EqIgnoreSpan for ArrayLit<E> {
+    ghost tree = { λ n. array_tree E.tree n };
+
+    fn is_same(&self, other: &ArrayLit<E>, spans: bool) -> bool {
+        spans_agree(spans, &[self.span], &[other.span]) & self.elems.is_same(&other.elems, spans)
+    }
+}
+
 impl<P: EqIgnoreSpan> EqIgnoreSpan for ObjectLit<P> {
     ghost tree = { λ n. object_tree P.tree n };
 
@@ -83,6 +91,17 @@ impl<E: EqIgnoreSpan> EqIgnoreSpan for KeyValueProp<E> {
 
     fn is_same(&self, other: &KeyValueProp<E>, spans: bool) -> bool {
         self.key.is_same(&other.key, spans) & self.value.is_same(&other.value, spans)
+    }
+}
+
+impl<E: EqIgnoreSpan> EqIgnoreSpan for UpdateExpr<E> {
+    ghost tree = { λ n. update_tree E.tree n };
+
+    fn is_same(&self, other: &UpdateExpr<E>, spans: bool) -> bool {
+        (self.op == other.op)
+            & (self.prefix == other.prefix)
+            & spans_agree(spans, &[self.span], &[other.span])
+            & self.arg.is_same(&other.arg, spans)
     }
 }
 
@@ -168,6 +187,16 @@ impl<E: EqIgnoreSpan> EqIgnoreSpan for SeqExpr<E> {
 
     fn is_same(&self, other: &SeqExpr<E>, spans: bool) -> bool {
         spans_agree(spans, &[self.span], &[other.span]) & self.exprs.is_same(&other.exprs, spans)
+    }
+}
+
+impl<E: EqIgnoreSpan> EqIgnoreSpan for Tpl<E> {
+    ghost tree = { λ n. tpl_tree E.tree n };
+
+    fn is_same(&self, other: &Tpl<E>, spans: bool) -> bool {
+        spans_agree(spans, &[self.span], &[other.span])
+            & self.quasis.is_same(&other.quasis, spans)
+            & self.exprs.is_same(&other.exprs, spans)
     }
 }
 

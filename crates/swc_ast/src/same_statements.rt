@@ -145,3 +145,14 @@ impl<S: EqIgnoreSpan> EqIgnoreSpan for Option<BlockStmt<S>> {
         }
     }
 }
+
+impl<S: EqIgnoreSpan> EqIgnoreSpan for TryStmt<S> {
+    ghost tree = { λ n. try_tree S.tree n };
+
+    fn is_same(&self, other: &TryStmt<S>, spans: bool) -> bool {
+        spans_agree(spans, &[self.span], &[other.span])
+            & self.block.is_same(&other.block, spans)
+            & self.handler.is_same(&other.handler, spans)
+            & self.finalizer.is_same(&other.finalizer, spans)
+    }
+}
