@@ -12,7 +12,7 @@ use Rattle.swc_ast.specs.Nodes.{key_of_member, init_node, option_handler_node}
 use Rattle.swc_ast.proofs.Truths.{spans-both, never-then, never, member-dot, member-index, assign-name, assign-dot, assign-index, update-name, update-dot, update-index, try-plain, try-handler, array-parts, item-plain, item-spread, quasi-more, tpl-parts}
 use Rattle.swc_ast.specs.Same.{same, same_forest, same_label, same_spans, same_span, same_assign, same_update, same_kind, same_item, same_quasi, same_option}
 use Rattle.std.specs.Bool.{beq}
-use Rattle.swc_ast.proofs.SameTrees.{impossible}
+use Rattle.swc_ast.specs.SameLaws.{impossible}
 use Rattle.swc_ast.specs.declared.Span.{Span}
 use Rattle.swc_ast.specs.declared.literals.Lit.{Lit}
 use Rattle.swc_ast.specs.declared.literals.Lit.TheVariants as lit

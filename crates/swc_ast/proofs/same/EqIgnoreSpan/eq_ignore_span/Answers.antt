@@ -1,6 +1,6 @@
 use Rattle.std.proofs.Common.{sym, ◌∙◌}
 use Rattle.swc_ast.specs.Same.{same, same_label}
-use Rattle.swc_ast.proofs.SameTrees.{same-bare, bare-same}
+use Rattle.swc_ast.specs.SameLaws.{same-bare, bare-same}
 use Rattle.swc_ast.proofs.same.EqIgnoreSpan.eq_ignore_span.Goals as goal
 
 pub returns : goal.returns
