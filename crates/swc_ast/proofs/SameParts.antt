@@ -2,15 +2,20 @@
 use Rattle.std.proofs.Common.{◌≡◌, refl, sym, ap, ◌∙◌, Bool, true, false, ◌&&◌, ◌||◌, List, [], ◌∷◌, map, length, ◌<◌, ◌≤◌, ◌+◌, drop, get_or, subst}
 use Rattle.std.proofs.lemmas.List.{drop_more, drop_all}
 use Rattle.std.specs.Prelude.{ℕ, not, Option, Some, None, bytes_eq}
+use Rattle.std.specs.declared.alloc.Global.{Global}
+use Rattle.std.specs.declared.boxed.Box.{Box}
 use Rattle.std.specs.Cmp.Lexicographic.{pointwise}
 use Rattle.swc_ast.specs.Tree as tree
-use Rattle.swc_ast.specs.Tree.{same_name, Tree, node, Forest, ε, ◌⊳◌}
+use Rattle.swc_ast.specs.Tree.{Name, same_name, Tree, node, Forest, ε, ◌⊳◌}
 use Rattle.swc_ast.specs.Parts.{leaf, absent, list_trees, optional_trees, lit_tree, ident_name, ident_tree, word_text, option_ident_name, option_ident_spans}
-use Rattle.swc_ast.specs.Expressions.{element_node, target_tree, member_node, member_update, member_assign, assign_node, update_node, key_tree, spread_kind, with_span, item_kind, item_spans, item_trees, element_tree, quasi_text, quasi_span}
+use Rattle.swc_ast.specs.declared.UnaryOp.{UnaryOp}
+use Rattle.swc_ast.specs.declared.UnaryOp.TheVariants as op
+use Rattle.swc_ast.specs.Expressions.{unary_node, element_node, target_tree, member_tree, member_node, member_update, member_assign, param_tree, assign_node, update_node, key_tree, spread_kind, with_span, item_kind, item_spans, item_trees, element_tree, quasi_text, quasi_span}
 use Rattle.swc_ast.specs.Statements.{declarator_tree, block_tree, option_block_tree, handler_param, handler_spans, handler_tree}
 use Rattle.swc_ast.specs.Nodes.{key_of_member, init_node, option_handler_node}
-use Rattle.swc_ast.proofs.Truths.{spans-both, never-then, never, member-dot, member-index, assign-name, assign-dot, assign-index, update-name, update-dot, update-index, try-plain, try-handler, array-parts, item-plain, item-spread, quasi-more, tpl-parts}
-use Rattle.swc_ast.specs.Same.{same, same_forest, same_label, same_spans, same_span, same_assign, same_update, same_kind, same_item, same_quasi, same_option}
+use Rattle.swc_ast.proofs.Joined.{joined-2, joined-3}
+use Rattle.swc_ast.proofs.Truths.{typeof-name, spans-both, never-then, never, never-here, member-dot, member-index, assign-name, assign-dot, assign-index, update-name, update-dot, update-index, try-plain, try-handler, array-parts, item-plain, item-spread, quasi-more, tpl-parts}
+use Rattle.swc_ast.specs.Same.{same, same_forest, same_label, same_spans, same_span, same_assign, same_update, same_unary, same_kind, same_item, same_quasi, same_option}
 use Rattle.std.specs.Bool.{beq}
 use Rattle.swc_ast.specs.SameLaws.{impossible}
 use Rattle.swc_ast.specs.declared.Span.{Span}
@@ -34,6 +39,7 @@ use Rattle.swc_ast.specs.declared.statements.VarDeclOrExpr.{VarDeclOrExpr}
 use Rattle.swc_ast.specs.declared.statements.VarDeclOrExpr.TheVariants as init
 use Rattle.swc_ast.specs.declared.expressions.MemberProp.{MemberProp}
 use Rattle.swc_ast.specs.declared.expressions.MemberProp.TheVariants as prop
+use Rattle.swc_ast.specs.declared.expressions.MemberExpr.{MemberExpr}
 
 -- a function of two values that are known
 pub two-at : {A B C : Type 0} (F : A → B → C) {a x : A} {b y : B} → a ≡ x → b ≡ y → F x y ≡ F a b
@@ -296,3 +302,77 @@ items-same f s (Some m ∷ xs) (Some n ∷ ys) = some m.spread n.spread (f m.exp
 
 pub array-same : {X : Type 0} (f : X → Tree) (s : Bool) (a b : Span) (xs ys : List (Option (ExprOrSpread X))) → (same_spans s (a ∷ []) (b ∷ []) && same_forest s (list_trees (element_tree f) xs) (list_trees (element_tree f) ys)) ≡ (pointwise same_item (map item_kind xs) (map item_kind ys) && (same_spans s (a ∷ item_spans xs) (b ∷ item_spans ys) && same_forest s (item_trees f xs) (item_trees f ys)))
 array-same f s a b xs ys = ap (λ r. same_spans s (a ∷ []) (b ∷ []) && r) (items-same f s xs ys) ∙ array-parts (same_spans s (a ∷ []) (b ∷ [])) (pointwise same_item (map item_kind xs) (map item_kind ys)) (same_spans s (item_spans xs) (item_spans ys)) (same_forest s (item_trees f xs) (item_trees f ys)) ∙ ap (λ z. pointwise same_item (map item_kind xs) (map item_kind ys) && (z && same_forest s (item_trees f xs) (item_trees f ys))) (sym (first_span s a b (item_spans xs) (item_spans ys)))
+
+-- whether a tree is a name that is read
+is_read : Tree → Bool
+is_read (node (tree.Read x) ss cs) = true
+is_read _ = false
+
+read-other : (s : Bool) (x : Name) (ss : List Span) (cs : Forest) (u : Tree) → is_read u ≡ false → same s (node (tree.Read x) ss cs) u ≡ false
+unfolding same same_label is_read
+read-other s x ss cs (node (tree.Read y) ts ds) e = impossible (sym e)
+read-other s x ss cs (node _ ts ds) e = refl
+
+other-read : (s : Bool) (x : Name) (ss : List Span) (cs : Forest) (u : Tree) → is_read u ≡ false → same s u (node (tree.Read x) ss cs) ≡ false
+unfolding same same_label is_read
+other-read s x ss cs (node (tree.Read y) ts ds) e = impossible (sym e)
+other-read s x ss cs (node _ ts ds) e = refl
+
+typeof-other : (a : Span) (t : Tree) → is_read t ≡ false → unary_node op.TypeOf a t ≡ node (tree.Unary op.TypeOf) (a ∷ []) (t ⊳ ε)
+unfolding unary_node is_read
+typeof-other a (node (tree.Read y) ts ds) e = impossible (sym e)
+typeof-other a (node _ ts ds) e = refl
+
+data Operand : Tree → Type 0 where
+  name : (x : Name) (ss : List Span) (cs : Forest) → Operand (node (tree.Read x) ss cs)
+  other : (t : Tree) → is_read t ≡ false → Operand t
+
+operand : (t : Tree) → Operand t
+unfolding is_read
+operand (node (tree.Read x) ss cs) = name x ss cs
+operand (node l ss cs) = other (node l ss cs) refl
+
+-- `typeof` of two operands
+typeof-same : (s : Bool) (a b : Span) (t u : Tree) → (same_spans s (a ∷ []) (b ∷ []) && same s t u) ≡ same s (unary_node op.TypeOf a t) (unary_node op.TypeOf b u)
+unfolding same same_label unary_node
+typeof-same s a b t u = by t u (operand t) (operand u)
+  where
+    by : (t u : Tree) → Operand t → Operand u → (same_spans s (a ∷ []) (b ∷ []) && same s t u) ≡ same s (unary_node op.TypeOf a t) (unary_node op.TypeOf b u)
+    by t u (name x ss cs) (name y ts ds) = typeof-name (same_spans s (a ∷ []) (b ∷ [])) (same_name x y) (same_spans s ss ts) (same_forest s cs ds) ∙ ap (λ z. same_name x y && (z && same_forest s cs ds)) (sym (first_span s a b ss ts))
+    by t _ (name x ss cs) (other u unread) = ap (λ z. same_spans s (a ∷ []) (b ∷ []) && z) (read-other s x ss cs u unread) ∙ sym (never (same_spans s (a ∷ []) (b ∷ []))) ∙ sym (ap (λ z. same s (node (tree.TypeOfName x) (a ∷ ss) cs) z) (typeof-other b u unread))
+    by _ u (other t unread) (name y ts ds) = ap (λ z. same_spans s (a ∷ []) (b ∷ []) && z) (other-read s y ts ds t unread) ∙ sym (never (same_spans s (a ∷ []) (b ∷ []))) ∙ sym (ap (λ z. same s z (node (tree.TypeOfName y) (b ∷ ts) ds)) (typeof-other a t unread))
+    by _ _ (other t unread) (other u unread2) = joined-2 refl refl ∙ two-at (λ p q. same s p q) (typeof-other a t unread) (typeof-other b u unread2)
+
+typeof-left : (s : Bool) (p : UnaryOp) (a b : Span) (t u : Tree) → same_unary op.TypeOf p ≡ false → false ≡ same s (unary_node op.TypeOf a t) (node (tree.Unary p) (b ∷ []) (u ⊳ ε))
+unfolding same same_label unary_node
+typeof-left s p a b t u differ = by t (operand t)
+  where
+    by : (t : Tree) → Operand t → false ≡ same s (unary_node op.TypeOf a t) (node (tree.Unary p) (b ∷ []) (u ⊳ ε))
+    by _ (name x ss cs) = refl
+    by _ (other t unread) = sym (ap (λ z. z && (same_spans s (a ∷ []) (b ∷ []) && (same s t u && true))) differ) ∙ sym (ap (λ z. same s z (node (tree.Unary p) (b ∷ []) (u ⊳ ε))) (typeof-other a t unread))
+
+typeof-right : (s : Bool) (o : UnaryOp) (a b : Span) (t u : Tree) → same_unary o op.TypeOf ≡ false → false ≡ same s (node (tree.Unary o) (a ∷ []) (t ⊳ ε)) (unary_node op.TypeOf b u)
+unfolding same same_label unary_node
+typeof-right s o a b t u differ = by u (operand u)
+  where
+    by : (u : Tree) → Operand u → false ≡ same s (node (tree.Unary o) (a ∷ []) (t ⊳ ε)) (unary_node op.TypeOf b u)
+    by _ (name x ss cs) = refl
+    by _ (other u unread) = sym (ap (λ z. z && (same_spans s (a ∷ []) (b ∷ []) && (same s t u && true))) differ) ∙ sym (ap (λ z. same s (node (tree.Unary o) (a ∷ []) (t ⊳ ε)) z) (typeof-other b u unread))
+
+-- an operator in front of two operands
+pub unary-same : (s : Bool) (o p : UnaryOp) (a b : Span) (t u : Tree) → ((same_unary o p && same_spans s (a ∷ []) (b ∷ [])) && same s t u) ≡ same s (unary_node o a t) (unary_node p b u)
+unfolding same same_label unary_node
+unary-same s op.TypeOf op.TypeOf a b t u = typeof-same s a b t u
+unary-same s op.TypeOf op.Minus a b t u = typeof-left s op.Minus a b t u refl
+unary-same s op.TypeOf op.Plus a b t u = typeof-left s op.Plus a b t u refl
+unary-same s op.TypeOf op.Bang a b t u = typeof-left s op.Bang a b t u refl
+unary-same s op.TypeOf op.Tilde a b t u = typeof-left s op.Tilde a b t u refl
+unary-same s op.TypeOf op.Void a b t u = typeof-left s op.Void a b t u refl
+unary-same s op.TypeOf op.Delete a b t u = typeof-left s op.Delete a b t u refl
+unary-same s op.Minus op.TypeOf a b t u = typeof-right s op.Minus a b t u refl
+unary-same s op.Plus op.TypeOf a b t u = typeof-right s op.Plus a b t u refl
+unary-same s op.Bang op.TypeOf a b t u = typeof-right s op.Bang a b t u refl
+unary-same s op.Tilde op.TypeOf a b t u = typeof-right s op.Tilde a b t u refl
+unary-same s op.Void op.TypeOf a b t u = typeof-right s op.Void a b t u refl
+unary-same s op.Delete op.TypeOf a b t u = typeof-right s op.Delete a b t u refl
+unary-same s o p a b t u = joined-3 {a = same_unary o p} {b = same_spans s (a ∷ []) (b ∷ [])} {c = same s t u} refl refl refl

@@ -496,3 +496,21 @@ tpl-parts false false true true = refl
 tpl-parts false false true false = refl
 tpl-parts false false false true = refl
 tpl-parts false false false false = refl
+
+pub typeof-name : (a n p c : Bool) → (a && (n && (p && c))) ≡ (n && ((a && p) && c))
+typeof-name true true true true = refl
+typeof-name true true true false = refl
+typeof-name true true false true = refl
+typeof-name true true false false = refl
+typeof-name true false true true = refl
+typeof-name true false true false = refl
+typeof-name true false false true = refl
+typeof-name true false false false = refl
+typeof-name false true true true = refl
+typeof-name false true true false = refl
+typeof-name false true false true = refl
+typeof-name false true false false = refl
+typeof-name false false true true = refl
+typeof-name false false true false = refl
+typeof-name false false false true = refl
+typeof-name false false false false = refl

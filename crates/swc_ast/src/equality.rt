@@ -13,7 +13,7 @@ use crate::expressions::{
 };
 use crate::literals::Lit;
 use crate::names::{Ident, IdentName};
-use crate::same::EqIgnoreSpan;
+use crate::same::Compare;
 use crate::statements::{
     BlockStmt, BreakStmt, ContinueStmt, ExprStmt, LabeledStmt, ReturnStmt, ThrowStmt, TryStmt,
 };
@@ -88,7 +88,7 @@ impl Eq for ContinueStmt {
     ghost laws = { equivalence-by continue_tree };
 }
 
-impl<E: EqIgnoreSpan> PartialEq for ArrayLit<E> {
+impl<E: Compare> PartialEq for ArrayLit<E> {
     ghost eq = { λ a b. same true (array_tree E.tree a) (array_tree E.tree b) };
 
     ghost laws = { partial-by (array_tree E.tree) };
@@ -98,11 +98,11 @@ impl<E: EqIgnoreSpan> PartialEq for ArrayLit<E> {
     }
 }
 
-impl<E: EqIgnoreSpan> Eq for ArrayLit<E> {
+impl<E: Compare> Eq for ArrayLit<E> {
     ghost laws = { equivalence-by (array_tree E.tree) };
 }
 
-impl<E: EqIgnoreSpan> PartialEq for SpreadElement<E> {
+impl<E: Compare> PartialEq for SpreadElement<E> {
     ghost eq = { λ a b. same true (spread_tree E.tree a) (spread_tree E.tree b) };
 
     ghost laws = { partial-by (spread_tree E.tree) };
@@ -112,11 +112,11 @@ impl<E: EqIgnoreSpan> PartialEq for SpreadElement<E> {
     }
 }
 
-impl<E: EqIgnoreSpan> Eq for SpreadElement<E> {
+impl<E: Compare> Eq for SpreadElement<E> {
     ghost laws = { equivalence-by (spread_tree E.tree) };
 }
 
-impl<E: EqIgnoreSpan> PartialEq for PropName<E> {
+impl<E: Compare> PartialEq for PropName<E> {
     ghost eq = { λ a b. same true (key_tree E.tree a) (key_tree E.tree b) };
 
     ghost laws = { partial-by (key_tree E.tree) };
@@ -126,11 +126,11 @@ impl<E: EqIgnoreSpan> PartialEq for PropName<E> {
     }
 }
 
-impl<E: EqIgnoreSpan> Eq for PropName<E> {
+impl<E: Compare> Eq for PropName<E> {
     ghost laws = { equivalence-by (key_tree E.tree) };
 }
 
-impl<E: EqIgnoreSpan> PartialEq for KeyValueProp<E> {
+impl<E: Compare> PartialEq for KeyValueProp<E> {
     ghost eq = { λ a b. same true (key_value_tree E.tree a) (key_value_tree E.tree b) };
 
     ghost laws = { partial-by (key_value_tree E.tree) };
@@ -140,11 +140,11 @@ impl<E: EqIgnoreSpan> PartialEq for KeyValueProp<E> {
     }
 }
 
-impl<E: EqIgnoreSpan> Eq for KeyValueProp<E> {
+impl<E: Compare> Eq for KeyValueProp<E> {
     ghost laws = { equivalence-by (key_value_tree E.tree) };
 }
 
-impl<E: EqIgnoreSpan> PartialEq for UpdateExpr<E> {
+impl<E: Compare> PartialEq for UpdateExpr<E> {
     ghost eq = { λ a b. same true (update_tree E.tree a) (update_tree E.tree b) };
 
     ghost laws = { partial-by (update_tree E.tree) };
@@ -154,11 +154,11 @@ impl<E: EqIgnoreSpan> PartialEq for UpdateExpr<E> {
     }
 }
 
-impl<E: EqIgnoreSpan> Eq for UpdateExpr<E> {
+impl<E: Compare> Eq for UpdateExpr<E> {
     ghost laws = { equivalence-by (update_tree E.tree) };
 }
 
-impl<E: EqIgnoreSpan> PartialEq for BinExpr<E> {
+impl<E: Compare> PartialEq for BinExpr<E> {
     ghost eq = { λ a b. same true (bin_tree E.tree a) (bin_tree E.tree b) };
 
     ghost laws = { partial-by (bin_tree E.tree) };
@@ -168,11 +168,11 @@ impl<E: EqIgnoreSpan> PartialEq for BinExpr<E> {
     }
 }
 
-impl<E: EqIgnoreSpan> Eq for BinExpr<E> {
+impl<E: Compare> Eq for BinExpr<E> {
     ghost laws = { equivalence-by (bin_tree E.tree) };
 }
 
-impl<E: EqIgnoreSpan> PartialEq for AssignExpr<E> {
+impl<E: Compare> PartialEq for AssignExpr<E> {
     ghost eq = { λ a b. same true (assign_tree E.tree a) (assign_tree E.tree b) };
 
     ghost laws = { partial-by (assign_tree E.tree) };
@@ -182,11 +182,11 @@ impl<E: EqIgnoreSpan> PartialEq for AssignExpr<E> {
     }
 }
 
-impl<E: EqIgnoreSpan> Eq for AssignExpr<E> {
+impl<E: Compare> Eq for AssignExpr<E> {
     ghost laws = { equivalence-by (assign_tree E.tree) };
 }
 
-impl<E: EqIgnoreSpan> PartialEq for AssignTarget<E> {
+impl<E: Compare> PartialEq for AssignTarget<E> {
     ghost eq = { λ a b. same true (target_tree E.tree a) (target_tree E.tree b) };
 
     ghost laws = { partial-by (target_tree E.tree) };
@@ -196,11 +196,11 @@ impl<E: EqIgnoreSpan> PartialEq for AssignTarget<E> {
     }
 }
 
-impl<E: EqIgnoreSpan> Eq for AssignTarget<E> {
+impl<E: Compare> Eq for AssignTarget<E> {
     ghost laws = { equivalence-by (target_tree E.tree) };
 }
 
-impl<E: EqIgnoreSpan> PartialEq for MemberExpr<E> {
+impl<E: Compare> PartialEq for MemberExpr<E> {
     ghost eq = { λ a b. same true (member_tree E.tree a) (member_tree E.tree b) };
 
     ghost laws = { partial-by (member_tree E.tree) };
@@ -210,11 +210,11 @@ impl<E: EqIgnoreSpan> PartialEq for MemberExpr<E> {
     }
 }
 
-impl<E: EqIgnoreSpan> Eq for MemberExpr<E> {
+impl<E: Compare> Eq for MemberExpr<E> {
     ghost laws = { equivalence-by (member_tree E.tree) };
 }
 
-impl<E: EqIgnoreSpan> PartialEq for CondExpr<E> {
+impl<E: Compare> PartialEq for CondExpr<E> {
     ghost eq = { λ a b. same true (cond_tree E.tree a) (cond_tree E.tree b) };
 
     ghost laws = { partial-by (cond_tree E.tree) };
@@ -224,11 +224,11 @@ impl<E: EqIgnoreSpan> PartialEq for CondExpr<E> {
     }
 }
 
-impl<E: EqIgnoreSpan> Eq for CondExpr<E> {
+impl<E: Compare> Eq for CondExpr<E> {
     ghost laws = { equivalence-by (cond_tree E.tree) };
 }
 
-impl<E: EqIgnoreSpan> PartialEq for NewExpr<E> {
+impl<E: Compare> PartialEq for NewExpr<E> {
     ghost eq = { λ a b. same true (new_tree E.tree a) (new_tree E.tree b) };
 
     ghost laws = { partial-by (new_tree E.tree) };
@@ -238,11 +238,11 @@ impl<E: EqIgnoreSpan> PartialEq for NewExpr<E> {
     }
 }
 
-impl<E: EqIgnoreSpan> Eq for NewExpr<E> {
+impl<E: Compare> Eq for NewExpr<E> {
     ghost laws = { equivalence-by (new_tree E.tree) };
 }
 
-impl<E: EqIgnoreSpan> PartialEq for SeqExpr<E> {
+impl<E: Compare> PartialEq for SeqExpr<E> {
     ghost eq = { λ a b. same true (seq_tree E.tree a) (seq_tree E.tree b) };
 
     ghost laws = { partial-by (seq_tree E.tree) };
@@ -252,11 +252,11 @@ impl<E: EqIgnoreSpan> PartialEq for SeqExpr<E> {
     }
 }
 
-impl<E: EqIgnoreSpan> Eq for SeqExpr<E> {
+impl<E: Compare> Eq for SeqExpr<E> {
     ghost laws = { equivalence-by (seq_tree E.tree) };
 }
 
-impl<E: EqIgnoreSpan> PartialEq for Tpl<E> {
+impl<E: Compare> PartialEq for Tpl<E> {
     ghost eq = { λ a b. same true (tpl_tree E.tree a) (tpl_tree E.tree b) };
 
     ghost laws = { partial-by (tpl_tree E.tree) };
@@ -266,11 +266,11 @@ impl<E: EqIgnoreSpan> PartialEq for Tpl<E> {
     }
 }
 
-impl<E: EqIgnoreSpan> Eq for Tpl<E> {
+impl<E: Compare> Eq for Tpl<E> {
     ghost laws = { equivalence-by (tpl_tree E.tree) };
 }
 
-impl<E: EqIgnoreSpan> PartialEq for Pat<E> {
+impl<E: Compare> PartialEq for Pat<E> {
     ghost eq = { λ a b. same true (param_tree E.tree a) (param_tree E.tree b) };
 
     ghost laws = { partial-by (param_tree E.tree) };
@@ -280,11 +280,11 @@ impl<E: EqIgnoreSpan> PartialEq for Pat<E> {
     }
 }
 
-impl<E: EqIgnoreSpan> Eq for Pat<E> {
+impl<E: Compare> Eq for Pat<E> {
     ghost laws = { equivalence-by (param_tree E.tree) };
 }
 
-impl<E: EqIgnoreSpan> PartialEq for ReturnStmt<E> {
+impl<E: Compare> PartialEq for ReturnStmt<E> {
     ghost eq = { λ a b. same true (return_tree E.tree a) (return_tree E.tree b) };
 
     ghost laws = { partial-by (return_tree E.tree) };
@@ -294,11 +294,11 @@ impl<E: EqIgnoreSpan> PartialEq for ReturnStmt<E> {
     }
 }
 
-impl<E: EqIgnoreSpan> Eq for ReturnStmt<E> {
+impl<E: Compare> Eq for ReturnStmt<E> {
     ghost laws = { equivalence-by (return_tree E.tree) };
 }
 
-impl<E: EqIgnoreSpan> PartialEq for ThrowStmt<E> {
+impl<E: Compare> PartialEq for ThrowStmt<E> {
     ghost eq = { λ a b. same true (throw_tree E.tree a) (throw_tree E.tree b) };
 
     ghost laws = { partial-by (throw_tree E.tree) };
@@ -308,11 +308,11 @@ impl<E: EqIgnoreSpan> PartialEq for ThrowStmt<E> {
     }
 }
 
-impl<E: EqIgnoreSpan> Eq for ThrowStmt<E> {
+impl<E: Compare> Eq for ThrowStmt<E> {
     ghost laws = { equivalence-by (throw_tree E.tree) };
 }
 
-impl<E: EqIgnoreSpan> PartialEq for ExprStmt<E> {
+impl<E: Compare> PartialEq for ExprStmt<E> {
     ghost eq = { λ a b. same true (expr_stmt_tree E.tree a) (expr_stmt_tree E.tree b) };
 
     ghost laws = { partial-by (expr_stmt_tree E.tree) };
@@ -322,11 +322,11 @@ impl<E: EqIgnoreSpan> PartialEq for ExprStmt<E> {
     }
 }
 
-impl<E: EqIgnoreSpan> Eq for ExprStmt<E> {
+impl<E: Compare> Eq for ExprStmt<E> {
     ghost laws = { equivalence-by (expr_stmt_tree E.tree) };
 }
 
-impl<E: EqIgnoreSpan> PartialEq for VarDecl<E> {
+impl<E: Compare> PartialEq for VarDecl<E> {
     ghost eq = { λ a b. same true (var_tree E.tree a) (var_tree E.tree b) };
 
     ghost laws = { partial-by (var_tree E.tree) };
@@ -336,11 +336,11 @@ impl<E: EqIgnoreSpan> PartialEq for VarDecl<E> {
     }
 }
 
-impl<E: EqIgnoreSpan> Eq for VarDecl<E> {
+impl<E: Compare> Eq for VarDecl<E> {
     ghost laws = { equivalence-by (var_tree E.tree) };
 }
 
-impl<S: EqIgnoreSpan> PartialEq for BlockStmt<S> {
+impl<S: Compare> PartialEq for BlockStmt<S> {
     ghost eq = { λ a b. same true (block_tree S.tree a) (block_tree S.tree b) };
 
     ghost laws = { partial-by (block_tree S.tree) };
@@ -350,11 +350,11 @@ impl<S: EqIgnoreSpan> PartialEq for BlockStmt<S> {
     }
 }
 
-impl<S: EqIgnoreSpan> Eq for BlockStmt<S> {
+impl<S: Compare> Eq for BlockStmt<S> {
     ghost laws = { equivalence-by (block_tree S.tree) };
 }
 
-impl<S: EqIgnoreSpan> PartialEq for LabeledStmt<S> {
+impl<S: Compare> PartialEq for LabeledStmt<S> {
     ghost eq = { λ a b. same true (labeled_tree S.tree a) (labeled_tree S.tree b) };
 
     ghost laws = { partial-by (labeled_tree S.tree) };
@@ -364,11 +364,11 @@ impl<S: EqIgnoreSpan> PartialEq for LabeledStmt<S> {
     }
 }
 
-impl<S: EqIgnoreSpan> Eq for LabeledStmt<S> {
+impl<S: Compare> Eq for LabeledStmt<S> {
     ghost laws = { equivalence-by (labeled_tree S.tree) };
 }
 
-impl<S: EqIgnoreSpan> PartialEq for TryStmt<S> {
+impl<S: Compare> PartialEq for TryStmt<S> {
     ghost eq = { λ a b. same true (try_tree S.tree a) (try_tree S.tree b) };
 
     ghost laws = { partial-by (try_tree S.tree) };
@@ -378,6 +378,6 @@ impl<S: EqIgnoreSpan> PartialEq for TryStmt<S> {
     }
 }
 
-impl<S: EqIgnoreSpan> Eq for TryStmt<S> {
+impl<S: Compare> Eq for TryStmt<S> {
     ghost laws = { equivalence-by (try_tree S.tree) };
 }

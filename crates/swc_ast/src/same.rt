@@ -6,18 +6,24 @@ ghost use Rattle.swc_ast.specs.Same.{same, same_spans};
 
 use crate::Span;
 
-/// Comparison of nodes without their spans.
-pub trait EqIgnoreSpan: Drop {
+/// Comparison of nodes with their spans or without them.
+pub trait Compare: Drop {
     ghost tree: { Self → Tree };
 
     /// Whether two nodes are the same; their spans count where `spans` says so.
     fn is_same(&self, other: &Self, spans: bool) -> bool
         ensures { result ≡ same spans (tree self.now) (tree other.now) };
+}
 
+/// Comparison of nodes without their spans.
+pub trait EqIgnoreSpan: Compare {
     /// Whether two nodes are the same but for their spans.
     fn eq_ignore_span(&self, other: &Self) -> bool
-        ensures up_to_spans { IsTrue result ↔ (bare (tree self.now) ≡ bare (tree other.now)) }
-    {
+        ensures up_to_spans { IsTrue result ↔ (bare (Self.tree self.now) ≡ bare (Self.tree other.now)) };
+}
+
+impl<T: Compare> EqIgnoreSpan for T {
+    fn eq_ignore_span(&self, other: &T) -> bool {
         self.is_same(other, false)
     }
 }
@@ -29,7 +35,7 @@ pub(crate) fn spans_agree(spans: bool, a: &[Span], b: &[Span]) -> bool
     a == b || !spans
 }
 
-impl<T: EqIgnoreSpan> EqIgnoreSpan for Box<T> {
+impl<T: Compare> Compare for Box<T> {
     ghost tree = { λ b. T.tree b.value };
 
     fn is_same(&self, other: &Box<T>, spans: bool) -> bool {
@@ -37,7 +43,7 @@ impl<T: EqIgnoreSpan> EqIgnoreSpan for Box<T> {
     }
 }
 
-impl<T: EqIgnoreSpan> EqIgnoreSpan for Option<Box<T>> {
+impl<T: Compare> Compare for Option<Box<T>> {
     ghost tree = { λ o. node Block [] (optional_trees T.tree o) };
 
     fn is_same(&self, other: &Option<Box<T>>, spans: bool) -> bool {
@@ -49,7 +55,7 @@ impl<T: EqIgnoreSpan> EqIgnoreSpan for Option<Box<T>> {
     }
 }
 
-impl<T: EqIgnoreSpan> EqIgnoreSpan for Vec<T> {
+impl<T: Compare> Compare for Vec<T> {
     ghost tree = { λ v. node Block [] (list_trees T.tree v.items) };
 
     fn is_same(&self, other: &Vec<T>, spans: bool) -> bool {

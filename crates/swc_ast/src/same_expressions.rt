@@ -11,9 +11,9 @@ use crate::expressions::{
     KeyValueProp, MemberExpr, MemberProp, NewExpr, ObjectLit, PropName, SeqExpr, SpreadElement,
     Tpl, UnaryExpr, UpdateExpr,
 };
-use crate::same::{EqIgnoreSpan, spans_agree};
+use crate::same::{Compare, spans_agree};
 
-impl<E: EqIgnoreSpan> EqIgnoreSpan for ExprOrSpread<E> {
+impl<E: Compare> Compare for ExprOrSpread<E> {
     ghost tree = { λ n. element_node n.spread (E.tree n.expr.value) };
 
     fn is_same(&self, other: &ExprOrSpread<E>, spans: bool) -> bool {
@@ -27,7 +27,7 @@ impl<E: EqIgnoreSpan> EqIgnoreSpan for ExprOrSpread<E> {
     }
 }
 
-impl<E: EqIgnoreSpan> EqIgnoreSpan for Option<ExprOrSpread<E>> {
+impl<E: Compare> Compare for Option<ExprOrSpread<E>> {
     ghost tree = { λ n. element_tree E.tree n };
 
     fn is_same(&self, other: &Option<ExprOrSpread<E>>, spans: bool) -> bool {
@@ -39,7 +39,7 @@ impl<E: EqIgnoreSpan> EqIgnoreSpan for Option<ExprOrSpread<E>> {
     }
 }
 
-impl<E: EqIgnoreSpan> EqIgnoreSpan for ArrayLit<E> {
+impl<E: Compare> Compare for ArrayLit<E> {
     ghost tree = { λ n. array_tree E.tree n };
 
     fn is_same(&self, other: &ArrayLit<E>, spans: bool) -> bool {
@@ -47,7 +47,7 @@ impl<E: EqIgnoreSpan> EqIgnoreSpan for ArrayLit<E> {
     }
 }
 
-impl<P: EqIgnoreSpan> EqIgnoreSpan for ObjectLit<P> {
+impl<P: Compare> Compare for ObjectLit<P> {
     ghost tree = { λ n. object_tree P.tree n };
 
     fn is_same(&self, other: &ObjectLit<P>, spans: bool) -> bool {
@@ -55,7 +55,7 @@ impl<P: EqIgnoreSpan> EqIgnoreSpan for ObjectLit<P> {
     }
 }
 
-impl<E: EqIgnoreSpan> EqIgnoreSpan for SpreadElement<E> {
+impl<E: Compare> Compare for SpreadElement<E> {
     ghost tree = { λ n. spread_tree E.tree n };
 
     fn is_same(&self, other: &SpreadElement<E>, spans: bool) -> bool {
@@ -64,7 +64,7 @@ impl<E: EqIgnoreSpan> EqIgnoreSpan for SpreadElement<E> {
     }
 }
 
-impl<E: EqIgnoreSpan> EqIgnoreSpan for ComputedPropName<E> {
+impl<E: Compare> Compare for ComputedPropName<E> {
     ghost tree = { λ n. node ComputedKey (n.span ∷ []) (E.tree n.expr.value ⊳ ε) };
 
     fn is_same(&self, other: &ComputedPropName<E>, spans: bool) -> bool {
@@ -72,7 +72,7 @@ impl<E: EqIgnoreSpan> EqIgnoreSpan for ComputedPropName<E> {
     }
 }
 
-impl<E: EqIgnoreSpan> EqIgnoreSpan for PropName<E> {
+impl<E: Compare> Compare for PropName<E> {
     ghost tree = { λ n. key_tree E.tree n };
 
     fn is_same(&self, other: &PropName<E>, spans: bool) -> bool {
@@ -86,7 +86,7 @@ impl<E: EqIgnoreSpan> EqIgnoreSpan for PropName<E> {
     }
 }
 
-impl<E: EqIgnoreSpan> EqIgnoreSpan for KeyValueProp<E> {
+impl<E: Compare> Compare for KeyValueProp<E> {
     ghost tree = { λ n. key_value_tree E.tree n };
 
     fn is_same(&self, other: &KeyValueProp<E>, spans: bool) -> bool {
@@ -94,7 +94,17 @@ impl<E: EqIgnoreSpan> EqIgnoreSpan for KeyValueProp<E> {
     }
 }
 
-impl<E: EqIgnoreSpan> EqIgnoreSpan for UpdateExpr<E> {
+impl<E: Compare> Compare for UnaryExpr<E> {
+    ghost tree = { λ n. unary_tree E.tree n };
+
+    fn is_same(&self, other: &UnaryExpr<E>, spans: bool) -> bool {
+        (self.op == other.op)
+            & spans_agree(spans, &[self.span], &[other.span])
+            & self.arg.is_same(&other.arg, spans)
+    }
+}
+
+impl<E: Compare> Compare for UpdateExpr<E> {
     ghost tree = { λ n. update_tree E.tree n };
 
     fn is_same(&self, other: &UpdateExpr<E>, spans: bool) -> bool {
@@ -105,7 +115,7 @@ impl<E: EqIgnoreSpan> EqIgnoreSpan for UpdateExpr<E> {
     }
 }
 
-impl<E: EqIgnoreSpan> EqIgnoreSpan for BinExpr<E> {
+impl<E: Compare> Compare for BinExpr<E> {
     ghost tree = { λ n. bin_tree E.tree n };
 
     fn is_same(&self, other: &BinExpr<E>, spans: bool) -> bool {
@@ -116,7 +126,7 @@ impl<E: EqIgnoreSpan> EqIgnoreSpan for BinExpr<E> {
     }
 }
 
-impl<E: EqIgnoreSpan> EqIgnoreSpan for AssignExpr<E> {
+impl<E: Compare> Compare for AssignExpr<E> {
     ghost tree = { λ n. assign_tree E.tree n };
 
     fn is_same(&self, other: &AssignExpr<E>, spans: bool) -> bool {
@@ -127,7 +137,7 @@ impl<E: EqIgnoreSpan> EqIgnoreSpan for AssignExpr<E> {
     }
 }
 
-impl<E: EqIgnoreSpan> EqIgnoreSpan for AssignTarget<E> {
+impl<E: Compare> Compare for AssignTarget<E> {
     ghost tree = { λ n. target_tree E.tree n };
 
     fn is_same(&self, other: &AssignTarget<E>, spans: bool) -> bool {
@@ -139,7 +149,7 @@ impl<E: EqIgnoreSpan> EqIgnoreSpan for AssignTarget<E> {
     }
 }
 
-impl<E: EqIgnoreSpan> EqIgnoreSpan for MemberProp<E> {
+impl<E: Compare> Compare for MemberProp<E> {
     ghost tree = { λ n. key_of_member E.tree n };
 
     fn is_same(&self, other: &MemberProp<E>, spans: bool) -> bool {
@@ -151,7 +161,7 @@ impl<E: EqIgnoreSpan> EqIgnoreSpan for MemberProp<E> {
     }
 }
 
-impl<E: EqIgnoreSpan> EqIgnoreSpan for MemberExpr<E> {
+impl<E: Compare> Compare for MemberExpr<E> {
     ghost tree = { λ n. member_tree E.tree n };
 
     fn is_same(&self, other: &MemberExpr<E>, spans: bool) -> bool {
@@ -161,7 +171,7 @@ impl<E: EqIgnoreSpan> EqIgnoreSpan for MemberExpr<E> {
     }
 }
 
-impl<E: EqIgnoreSpan> EqIgnoreSpan for CondExpr<E> {
+impl<E: Compare> Compare for CondExpr<E> {
     ghost tree = { λ n. cond_tree E.tree n };
 
     fn is_same(&self, other: &CondExpr<E>, spans: bool) -> bool {
@@ -172,7 +182,7 @@ impl<E: EqIgnoreSpan> EqIgnoreSpan for CondExpr<E> {
     }
 }
 
-impl<E: EqIgnoreSpan> EqIgnoreSpan for NewExpr<E> {
+impl<E: Compare> Compare for NewExpr<E> {
     ghost tree = { λ n. new_tree E.tree n };
 
     fn is_same(&self, other: &NewExpr<E>, spans: bool) -> bool {
@@ -182,7 +192,7 @@ impl<E: EqIgnoreSpan> EqIgnoreSpan for NewExpr<E> {
     }
 }
 
-impl<E: EqIgnoreSpan> EqIgnoreSpan for SeqExpr<E> {
+impl<E: Compare> Compare for SeqExpr<E> {
     ghost tree = { λ n. seq_tree E.tree n };
 
     fn is_same(&self, other: &SeqExpr<E>, spans: bool) -> bool {
@@ -190,7 +200,7 @@ impl<E: EqIgnoreSpan> EqIgnoreSpan for SeqExpr<E> {
     }
 }
 
-impl<E: EqIgnoreSpan> EqIgnoreSpan for Tpl<E> {
+impl<E: Compare> Compare for Tpl<E> {
     ghost tree = { λ n. tpl_tree E.tree n };
 
     fn is_same(&self, other: &Tpl<E>, spans: bool) -> bool {
@@ -200,7 +210,7 @@ impl<E: EqIgnoreSpan> EqIgnoreSpan for Tpl<E> {
     }
 }
 
-impl<E: EqIgnoreSpan> EqIgnoreSpan for AssignPat<E> {
+impl<E: Compare> Compare for AssignPat<E> {
     ghost tree = { λ n. param_tree E.tree (Assign n) };
 
     fn is_same(&self, other: &AssignPat<E>, spans: bool) -> bool {
@@ -215,7 +225,7 @@ impl<E: EqIgnoreSpan> EqIgnoreSpan for AssignPat<E> {
     }
 }
 
-impl<E: EqIgnoreSpan> EqIgnoreSpan for Pat<E> {
+impl<E: Compare> Compare for Pat<E> {
     ghost tree = { λ n. param_tree E.tree n };
 
     fn is_same(&self, other: &Pat<E>, spans: bool) -> bool {

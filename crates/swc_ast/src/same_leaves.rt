@@ -8,10 +8,10 @@ ghost use Rattle.swc_ast.specs.Statements.{break_tree, continue_tree};
 use crate::expressions::{Invalid, ThisExpr, TplElement};
 use crate::literals::{Bool, Lit, Null, Number, Str};
 use crate::names::{Ident, IdentName};
-use crate::same::{EqIgnoreSpan, spans_agree};
+use crate::same::{Compare, spans_agree};
 use crate::statements::{BreakStmt, ContinueStmt, EmptyStmt};
 
-impl EqIgnoreSpan for Ident {
+impl Compare for Ident {
     ghost tree = { λ n. ident_tree n };
 
     fn is_same(&self, other: &Ident, spans: bool) -> bool {
@@ -21,7 +21,7 @@ impl EqIgnoreSpan for Ident {
     }
 }
 
-impl EqIgnoreSpan for IdentName {
+impl Compare for IdentName {
     ghost tree = { λ n. word_tree n };
 
     fn is_same(&self, other: &IdentName, spans: bool) -> bool {
@@ -29,7 +29,7 @@ impl EqIgnoreSpan for IdentName {
     }
 }
 
-impl EqIgnoreSpan for Str {
+impl Compare for Str {
     ghost tree = { λ n. leaf (StrLit (string_bytes n.value)) n.span };
 
     fn is_same(&self, other: &Str, spans: bool) -> bool {
@@ -37,7 +37,7 @@ impl EqIgnoreSpan for Str {
     }
 }
 
-impl EqIgnoreSpan for Bool {
+impl Compare for Bool {
     ghost tree = { λ n. leaf (BoolLit n.value) n.span };
 
     fn is_same(&self, other: &Bool, spans: bool) -> bool {
@@ -45,7 +45,7 @@ impl EqIgnoreSpan for Bool {
     }
 }
 
-impl EqIgnoreSpan for Null {
+impl Compare for Null {
     ghost tree = { λ n. leaf NullLit n.span };
 
     fn is_same(&self, other: &Null, spans: bool) -> bool {
@@ -53,7 +53,7 @@ impl EqIgnoreSpan for Null {
     }
 }
 
-impl EqIgnoreSpan for Number {
+impl Compare for Number {
     ghost tree = { λ n. leaf (NumLit n.value) n.span };
 
     fn is_same(&self, other: &Number, spans: bool) -> bool {
@@ -61,7 +61,7 @@ impl EqIgnoreSpan for Number {
     }
 }
 
-impl EqIgnoreSpan for Lit {
+impl Compare for Lit {
     ghost tree = { λ n. lit_tree n };
 
     fn is_same(&self, other: &Lit, spans: bool) -> bool {
@@ -75,7 +75,7 @@ impl EqIgnoreSpan for Lit {
     }
 }
 
-impl EqIgnoreSpan for ThisExpr {
+impl Compare for ThisExpr {
     ghost tree = { λ n. leaf This n.span };
 
     fn is_same(&self, other: &ThisExpr, spans: bool) -> bool {
@@ -83,7 +83,7 @@ impl EqIgnoreSpan for ThisExpr {
     }
 }
 
-impl EqIgnoreSpan for Invalid {
+impl Compare for Invalid {
     ghost tree = { λ n. leaf Invalid n.span };
 
     fn is_same(&self, other: &Invalid, spans: bool) -> bool {
@@ -91,7 +91,7 @@ impl EqIgnoreSpan for Invalid {
     }
 }
 
-impl EqIgnoreSpan for EmptyStmt {
+impl Compare for EmptyStmt {
     ghost tree = { λ n. leaf Empty n.span };
 
     fn is_same(&self, other: &EmptyStmt, spans: bool) -> bool {
@@ -99,7 +99,7 @@ impl EqIgnoreSpan for EmptyStmt {
     }
 }
 
-impl EqIgnoreSpan for TplElement {
+impl Compare for TplElement {
     ghost tree = { λ n. leaf (Template (quasi_text n ∷ [])) n.span };
 
     fn is_same(&self, other: &TplElement, spans: bool) -> bool {
@@ -109,7 +109,7 @@ impl EqIgnoreSpan for TplElement {
     }
 }
 
-impl EqIgnoreSpan for BreakStmt {
+impl Compare for BreakStmt {
     ghost tree = { λ n. break_tree n };
 
     fn is_same(&self, other: &BreakStmt, spans: bool) -> bool {
@@ -123,7 +123,7 @@ impl EqIgnoreSpan for BreakStmt {
     }
 }
 
-impl EqIgnoreSpan for ContinueStmt {
+impl Compare for ContinueStmt {
     ghost tree = { λ n. continue_tree n };
 
     fn is_same(&self, other: &ContinueStmt, spans: bool) -> bool {

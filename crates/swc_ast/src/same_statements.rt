@@ -4,12 +4,12 @@ ghost use Rattle.swc_ast.specs.declared.VarDeclKind.TheVariants.{Var};
 ghost use Rattle.swc_ast.specs.Statements.{declarator_tree, var_tree, block_tree, option_block_tree, return_tree, throw_tree, expr_stmt_tree, labeled_tree, try_tree};
 
 use crate::declarations::{VarDecl, VarDeclarator};
-use crate::same::{EqIgnoreSpan, spans_agree};
+use crate::same::{Compare, spans_agree};
 use crate::statements::{
     BlockStmt, CatchClause, ExprStmt, LabeledStmt, ReturnStmt, ThrowStmt, TryStmt, VarDeclOrExpr,
 };
 
-impl<S: EqIgnoreSpan> EqIgnoreSpan for BlockStmt<S> {
+impl<S: Compare> Compare for BlockStmt<S> {
     ghost tree = { λ n. block_tree S.tree n };
 
     fn is_same(&self, other: &BlockStmt<S>, spans: bool) -> bool {
@@ -17,7 +17,7 @@ impl<S: EqIgnoreSpan> EqIgnoreSpan for BlockStmt<S> {
     }
 }
 
-impl<E: EqIgnoreSpan> EqIgnoreSpan for ReturnStmt<E> {
+impl<E: Compare> Compare for ReturnStmt<E> {
     ghost tree = { λ n. return_tree E.tree n };
 
     fn is_same(&self, other: &ReturnStmt<E>, spans: bool) -> bool {
@@ -25,7 +25,7 @@ impl<E: EqIgnoreSpan> EqIgnoreSpan for ReturnStmt<E> {
     }
 }
 
-impl<E: EqIgnoreSpan> EqIgnoreSpan for ThrowStmt<E> {
+impl<E: Compare> Compare for ThrowStmt<E> {
     ghost tree = { λ n. throw_tree E.tree n };
 
     fn is_same(&self, other: &ThrowStmt<E>, spans: bool) -> bool {
@@ -33,7 +33,7 @@ impl<E: EqIgnoreSpan> EqIgnoreSpan for ThrowStmt<E> {
     }
 }
 
-impl<E: EqIgnoreSpan> EqIgnoreSpan for ExprStmt<E> {
+impl<E: Compare> Compare for ExprStmt<E> {
     ghost tree = { λ n. expr_stmt_tree E.tree n };
 
     fn is_same(&self, other: &ExprStmt<E>, spans: bool) -> bool {
@@ -41,7 +41,7 @@ impl<E: EqIgnoreSpan> EqIgnoreSpan for ExprStmt<E> {
     }
 }
 
-impl<S: EqIgnoreSpan> EqIgnoreSpan for LabeledStmt<S> {
+impl<S: Compare> Compare for LabeledStmt<S> {
     ghost tree = { λ n. labeled_tree S.tree n };
 
     fn is_same(&self, other: &LabeledStmt<S>, spans: bool) -> bool {
@@ -55,7 +55,7 @@ impl<S: EqIgnoreSpan> EqIgnoreSpan for LabeledStmt<S> {
     }
 }
 
-impl<E: EqIgnoreSpan> EqIgnoreSpan for VarDeclarator<E> {
+impl<E: Compare> Compare for VarDeclarator<E> {
     ghost tree = { λ n. declarator_tree E.tree Var n };
 
     fn is_same(&self, other: &VarDeclarator<E>, spans: bool) -> bool {
@@ -70,7 +70,7 @@ impl<E: EqIgnoreSpan> EqIgnoreSpan for VarDeclarator<E> {
     }
 }
 
-impl<E: EqIgnoreSpan> EqIgnoreSpan for VarDecl<E> {
+impl<E: Compare> Compare for VarDecl<E> {
     ghost tree = { λ n. var_tree E.tree n };
 
     fn is_same(&self, other: &VarDecl<E>, spans: bool) -> bool {
@@ -80,7 +80,7 @@ impl<E: EqIgnoreSpan> EqIgnoreSpan for VarDecl<E> {
     }
 }
 
-impl<E: EqIgnoreSpan> EqIgnoreSpan for VarDeclOrExpr<E> {
+impl<E: Compare> Compare for VarDeclOrExpr<E> {
     ghost tree = { λ n. init_node E.tree n };
 
     fn is_same(&self, other: &VarDeclOrExpr<E>, spans: bool) -> bool {
@@ -92,7 +92,7 @@ impl<E: EqIgnoreSpan> EqIgnoreSpan for VarDeclOrExpr<E> {
     }
 }
 
-impl<E: EqIgnoreSpan> EqIgnoreSpan for Option<VarDeclOrExpr<E>> {
+impl<E: Compare> Compare for Option<VarDeclOrExpr<E>> {
     ghost tree = { λ n. option_init_node E.tree n };
 
     fn is_same(&self, other: &Option<VarDeclOrExpr<E>>, spans: bool) -> bool {
@@ -104,7 +104,7 @@ impl<E: EqIgnoreSpan> EqIgnoreSpan for Option<VarDeclOrExpr<E>> {
     }
 }
 
-impl<S: EqIgnoreSpan> EqIgnoreSpan for CatchClause<S> {
+impl<S: Compare> Compare for CatchClause<S> {
     ghost tree = { λ n. handler_node S.tree n };
 
     fn is_same(&self, other: &CatchClause<S>, spans: bool) -> bool {
@@ -122,7 +122,7 @@ impl<S: EqIgnoreSpan> EqIgnoreSpan for CatchClause<S> {
     }
 }
 
-impl<S: EqIgnoreSpan> EqIgnoreSpan for Option<CatchClause<S>> {
+impl<S: Compare> Compare for Option<CatchClause<S>> {
     ghost tree = { λ n. option_handler_node S.tree n };
 
     fn is_same(&self, other: &Option<CatchClause<S>>, spans: bool) -> bool {
@@ -134,7 +134,7 @@ impl<S: EqIgnoreSpan> EqIgnoreSpan for Option<CatchClause<S>> {
     }
 }
 
-impl<S: EqIgnoreSpan> EqIgnoreSpan for Option<BlockStmt<S>> {
+impl<S: Compare> Compare for Option<BlockStmt<S>> {
     ghost tree = { λ n. option_block_tree S.tree n };
 
     fn is_same(&self, other: &Option<BlockStmt<S>>, spans: bool) -> bool {
@@ -146,7 +146,7 @@ impl<S: EqIgnoreSpan> EqIgnoreSpan for Option<BlockStmt<S>> {
     }
 }
 
-impl<S: EqIgnoreSpan> EqIgnoreSpan for TryStmt<S> {
+impl<S: Compare> Compare for TryStmt<S> {
     ghost tree = { λ n. try_tree S.tree n };
 
     fn is_same(&self, other: &TryStmt<S>, spans: bool) -> bool {

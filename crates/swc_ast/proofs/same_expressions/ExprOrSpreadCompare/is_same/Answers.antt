@@ -1,0 +1,22 @@
+use Rattle.std.proofs.Common.{◌∙◌}
+use Rattle.swc_ast.specs.Same.{same, same_label}
+use Rattle.swc_ast.specs.Expressions.{element_node}
+use Rattle.swc_ast.proofs.Joined.{joined-1, joined-2}
+use Rattle.swc_ast.proofs.SameParts.{two-at}
+use Rattle.swc_ast.proofs.same_expressions.ExprOrSpreadCompare.is_same.Goals as goal
+
+pub returns-in-Some-Some : goal.returns-in-Some-Some
+unfolding same same_label
+returns-in-Some-Some g c = joined-2 c.spans_agree.ensures c.is_same.ensures ∙ two-at (λ o p. same c.args.spans (element_node o (g.E.Compare.tree c.args.self.now.expr.value)) (element_node p (g.E.Compare.tree c.args.other.now.expr.value))) c.in-Some-Some.is-0 c.in-Some-Some.is-1
+
+pub returns-in-None-None : goal.returns-in-None-None
+unfolding same same_label
+returns-in-None-None g c = joined-1 c.is_same-in-None-None.ensures ∙ two-at (λ o p. same c.args.spans (element_node o (g.E.Compare.tree c.args.self.now.expr.value)) (element_node p (g.E.Compare.tree c.args.other.now.expr.value))) c.in-None-None.is-0 c.in-None-None.is-1
+
+pub returns-in_default : goal.returns-in_default
+unfolding same same_label
+returns-in_default g c = two-at (λ o p. same c.args.spans (element_node o (g.E.Compare.tree c.args.self.now.expr.value)) (element_node p (g.E.Compare.tree c.args.other.now.expr.value))) c.in_default.is-0 c.in_default.is-1
+
+pub returns-in_default-2 : goal.returns-in_default-2
+unfolding same same_label
+returns-in_default-2 g c = two-at (λ o p. same c.args.spans (element_node o (g.E.Compare.tree c.args.self.now.expr.value)) (element_node p (g.E.Compare.tree c.args.other.now.expr.value))) c.in_default.is-0 c.in_default.is-1

@@ -1,9 +1,0 @@
-use Rattle.std.proofs.Common.{refl, ◌∙◌}
-use Rattle.swc_ast.specs.Same.{same, same_label}
-use Rattle.swc_ast.proofs.Joined.{ends, joined-2}
-use Rattle.swc_ast.proofs.SameParts.{both}
-use Rattle.swc_ast.proofs.same_leaves.TplElementEqIgnoreSpan.is_same.Goals as goal
-
-pub returns : goal.returns
-unfolding same same_label
-returns c = joined-2 (both (c.eq.ensures) refl ∙ ends _) c.spans_agree.ensures

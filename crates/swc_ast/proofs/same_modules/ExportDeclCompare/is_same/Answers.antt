@@ -1,0 +1,7 @@
+use Rattle.swc_ast.specs.Same.{same, same_label}
+use Rattle.swc_ast.proofs.Joined.{joined-2}
+use Rattle.swc_ast.proofs.same_modules.ExportDeclCompare.is_same.Goals as goal
+
+pub returns : goal.returns
+unfolding same same_label
+returns c = joined-2 c.spans_agree.ensures c.is_same.ensures

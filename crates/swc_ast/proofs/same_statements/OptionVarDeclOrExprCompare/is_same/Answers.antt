@@ -1,0 +1,21 @@
+use Rattle.std.proofs.Common.{◌∙◌}
+use Rattle.swc_ast.specs.Same.{same, same_label}
+use Rattle.swc_ast.specs.Nodes.{option_init_node}
+use Rattle.swc_ast.proofs.SameParts.{init-absent, absent-init, two-at}
+use Rattle.swc_ast.proofs.same_statements.OptionVarDeclOrExprCompare.is_same.Goals as goal
+
+pub returns-in-Some-Some : goal.returns-in-Some-Some
+unfolding same same_label
+returns-in-Some-Some g c = c.is_same.ensures ∙ two-at (λ o p. same c.args.spans (option_init_node g.E.Compare.tree o) (option_init_node g.E.Compare.tree p)) c.in-Some-Some.is-0 c.in-Some-Some.is-1
+
+pub returns-in-None-None : goal.returns-in-None-None
+unfolding same same_label
+returns-in-None-None g c = two-at (λ o p. same c.args.spans (option_init_node g.E.Compare.tree o) (option_init_node g.E.Compare.tree p)) c.in-None-None.is-0 c.in-None-None.is-1
+
+pub returns-in_default : goal.returns-in_default
+unfolding same same_label
+returns-in_default g c = init-absent g.E.Compare.tree _ _ ∙ two-at (λ o p. same c.args.spans (option_init_node g.E.Compare.tree o) (option_init_node g.E.Compare.tree p)) c.in_default.is-0 c.in_default.is-1
+
+pub returns-in_default-2 : goal.returns-in_default-2
+unfolding same same_label
+returns-in_default-2 g c = absent-init g.E.Compare.tree _ _ ∙ two-at (λ o p. same c.args.spans (option_init_node g.E.Compare.tree o) (option_init_node g.E.Compare.tree p)) c.in_default.is-0 c.in_default.is-1
