@@ -4,9 +4,14 @@
 ghost use Rattle.swc_pass.specs.Laws.{RowIsLawful, RoundsAreLawful, RoundsComeToEnd, RoundsAreFew};
 ghost use Rattle.swc_pass.specs.Pass.{IsLawful};
 
+mod chain;
 mod pass;
+mod repeat;
+mod whole;
 
+pub use chain::Chain;
 pub use pass::{CompilerPass, Pass, Repeated};
+pub use repeat::Repeat;
 
 /// The laws of a pass, which its contract states: an answer does the same, stays resolved, valid and core, and is lighter
 /// where the pass says so.
