@@ -22,7 +22,7 @@ use Rattle.swc_static.specs.Together.{is_module}
 use Rattle.swc_static.proofs.Names.{has_name_append}
 use Rattle.swc_walk.specs.Pass.{Pass, is_plain, is_block, is_whole, is_declaration}
 use Rattle.swc_walk.specs.Walks.{Walks, closed, opened, passes, stands, stepped, Entered, plain, exported as exported_node, imports, block, ListMade, listed, tidied, Whole, whole, AllWalk, nothing, both}
-use Rattle.swc_kept.specs.Meant.{Sifts, sifted, stays_there, goes_there, ListStep, sifts_then, Unused, unused, ItemGoes, statement_goes, import_goes, ItemsStep, items_then, NodeStep, alone, of_declarators, of_specifiers, Meant}
+use Rattle.swc_kept.specs.Meant.{Sifts, sifted, stays_there, goes_there, ListStep, sifts_then, Unused, unused, ItemGoes, statement_goes, import_goes, ItemsStep, items_then, NodeStep, alone, of_declarators, of_specifiers, of_export, Meant}
 
 block_is : (l : Label) → is_block l ≡ true → roles.is_list l ≡ true
 block_is Block h = refl
@@ -103,11 +103,13 @@ module _ {N : Names} {mark : ℕ} {H : Steps} where
     plain_stepped l p c ws (alone i j n) = plain_meant l p c ws n
     plain_stepped (VarDecl k) p c ws (of_declarators j s n) = at_declarators k (sift (ws true) s) n
     plain_stepped (Import src) p c ws (of_specifiers s) = absurd (false≢true p)
+    plain_stepped ExportDecl p c ws (of_export n x) = absurd (false≢true p)
 
     block_stepped : (l : Label) {ss : List Span} {ts us : Forest} {w : Tree} → is_block l ≡ true → ListOf N mark H ts us → NodeStep N H (node l ss us) w → meaning.Walks N mark H (node l ss ts) w
     block_stepped l b ws (alone i j n) = block_meant l b ws n
     block_stepped (VarDecl k) b ws (of_declarators j s n) = absurd (false≢true b)
     block_stepped (Import src) b ws (of_specifiers s) = absurd (false≢true b)
+    block_stepped ExportDecl b ws (of_export n x) = absurd (false≢true b)
 
     mutual
       pub meant : {c : Bool} {a b : Tree} → Walks X c a b → AllClean N mark a → meaning.Walks N mark H a b
@@ -119,13 +121,14 @@ module _ {N : Names} {mark : ℕ} {H : Steps} where
 
       entered_meant : {c : Bool} {a b : Tree} → Entered X c a b → AllClean N mark a → meaning.Walks N mark H a b
       entered_meant (plain {l = l} {ss = ss} {us = us} p ws) k = plain_meant l p k.0 (λ b. all_meant b ws k.1.1) (m.node_stays (node l ss us))
-      entered_meant (exported_node {l = l} d ws) k = at_export l (declaration_is l d) k.1.1.0.0 (all_meant false ws k.1.1.0.1.1)
+      entered_meant (exported_node {l = l} {rs = rs} {us = us} d ws) k = at_export l (declaration_is l d) k.1.1.0.0 (all_meant false ws k.1.1.0.1.1) (m.node_stays (node l rs us)) refl
       entered_meant (imports u) k = as_it_is refl k
       entered_meant (block {l = l} {ss = ss} {us = us} b w) k = block_meant l b (list_meant (block_no_module l b) w k.1.1) (m.node_stays (node l ss us))
 
       stepped_meant : {c : Bool} {a b d : Tree} → Entered X c a b → AllClean N mark a → NodeStep N H b d → meaning.Walks N mark H a d
       stepped_meant (plain {l = l} p ws) k n = plain_stepped l p k.0 (λ b. all_meant b ws k.1.1) n
       stepped_meant (exported_node d ws) k (alone i j n) = absurd (true≢false i)
+      stepped_meant (exported_node {l = l} d ws) k (of_export n x) = at_export l (declaration_is l d) k.1.1.0.0 (all_meant false ws k.1.1.0.1.1) n x
       stepped_meant (imports {src = src} u) k (alone i j n) = absurd (true≢false i)
       stepped_meant (imports {src = src} u) k (of_specifiers s) = at_import src s
       stepped_meant (block {l = l} b w) k n = block_stepped l b (list_meant (block_no_module l b) w k.1.1) n
@@ -148,6 +151,7 @@ module _ {N : Names} {mark : ℕ} {H : Steps} where
     stepped_from : {c : Bool} {a b d : Tree} → Entered X c a b → NodeStep N H b d → Unused N d → Unused N a
     stepped_from w (alone i j n) e = absurd (true≢false (sym (unused_item e) ∙ j))
     stepped_from w (of_declarators j s n) e = absurd (true≢false (sym (unused_item e) ∙ j))
+    stepped_from w (of_export n x) e = elim e [ ]
     stepped_from w (of_specifiers s) (unused h) = entered_from w (unused (λ x k. unused_before s x k (h x k)))
 
     came_from : {c : Bool} {a b : Tree} → Walks X c a b → Unused N b → Unused N a

@@ -2,8 +2,9 @@
 use Rattle.std.specs.Prelude.{ℕ, ◌≡◌, Bool, false, List}
 use Rattle.swc_ast.specs.declared.Span.{Span}
 use Rattle.swc_ast.specs.declared.VarDeclKind.{VarDeclKind}
+use Rattle.swc_ast.specs.Run.{item_exports}
 use Rattle.swc_ast.specs.Scope.{has_name, specifier_names}
-use Rattle.swc_ast.specs.Tree.{Name, Text, Label, VarDecl, Import, Module, Tree, node, Forest, ε, ◌⊳◌}
+use Rattle.swc_ast.specs.Tree.{Name, Text, Label, VarDecl, Import, ExportDecl, Module, Tree, node, Forest, ε, ◌⊳◌}
 use Rattle.swc_meaning.specs.Names.{Names, Watched}
 use Rattle.swc_meaning.specs.Roles.{label, is_item, module_items}
 use Rattle.swc_meaning.specs.Rewrites.{Specifiers}
@@ -35,11 +36,12 @@ pub data ItemsStep (N : Names) (loads : Bool) (H : Steps) : Forest → Forest �
   items_then : {ts us vs : Forest} → Sifts (ItemGoes N loads H) ts us → H.Behind us vs → module_items us ≡ module_items vs → ItemsStep N loads H ts vs
 
 -- A node takes a step, of a declaration of variables once some declarators are gone. Imports and exports take none, but that
--- an import loses specifiers whose names are dropped.
+-- an import loses specifiers whose names are dropped, and a declaration that is exported takes one and exports the same.
 pub data NodeStep (N : Names) (H : Steps) : Tree → Tree → Type 0 where
   alone : {t u : Tree} → is_item (label t) ≡ false → is_item (label u) ≡ false → H.Node t u → NodeStep N H t u
   of_declarators : {k : VarDeclKind} {ss : List Span} {ds es : Forest} {u : Tree} → is_item (label u) ≡ false → Sifts H.GoesBehind ds es → H.Node (node (VarDecl k) ss es) u → NodeStep N H (node (VarDecl k) ss ds) u
   of_specifiers : {src : Text} {ss rs : List Span} {cs us : Forest} → Specifiers N cs us → NodeStep N H (node (Import src) ss cs) (node (Import src) rs us)
+  of_export : {l : Label} {ss rs qs : List Span} {us : Forest} {w : Tree} → H.Node (node l qs us) w → item_exports ExportDecl (node l qs us ⊳ ε) ≡ item_exports ExportDecl (w ⊳ ε) → NodeStep N H (node ExportDecl ss (node l qs us ⊳ ε)) (node ExportDecl rs (w ⊳ ε))
 
 -- The steps of a pass are steps of the walk that keeps what a program does.
 pub record Meant (X : Pass) (N : Names) (mark : ℕ) (loads : Bool) (H : Steps) : Type 0 where

@@ -4,3 +4,4 @@ pub mod Lighter
 pub mod ChainLaws
 pub mod Repeat
 pub mod RepeatLaws
+pub mod Laws

@@ -43,3 +43,14 @@ pub record IsLawful (p : PassSpec) : Type 0 where
   pub core : (n : ℕ) (t u : Tree) → IsFor p.mark n → p.answers t u → IsResolved n t → IsCore t → IsCore u
   -- what changes gets lighter, where the pass says so
   pub lighter : (t u : Tree) → p.lowers ≡ true → p.answers t u → SameBare t u ⊎ (weight u < weight t)
+
+-- What an answer of the pass owes its input, by these laws.
+pub record Keeps (p : PassSpec) (t u : Tree) : Type 0 where
+  -- it does the same
+  pub same : (n : ℕ) → IsFor p.mark n → IsResolved n t → IsCore t → Same n p.loads t u
+  -- it is resolved, valid and core where the input is
+  pub resolved : (n : ℕ) → IsFor p.mark n → IsResolved n t → IsResolved n u
+  pub valid : (n : ℕ) → IsFor p.mark n → IsResolved n t → valid t ≡ true → valid u ≡ true
+  pub core : (n : ℕ) → IsFor p.mark n → IsResolved n t → IsCore t → IsCore u
+  -- it is equal to the input up to spans or lighter, where the pass says so
+  pub lighter : p.lowers ≡ true → SameBare t u ⊎ (weight u < weight t)

@@ -2,7 +2,7 @@
 ghost use Rattle.std.specs.Prelude.{◌≡◌, ℕ, Bool, true, false, IfOk, IfErr, OnErr};
 ghost use Rattle.swc_ast.specs.Modules.{module_tree, script_tree};
 ghost use Rattle.swc_ast.specs.declared.errors.PassError.TheVariants.{OutOfMemory};
-ghost use Rattle.swc_pass.specs.Pass.{PassSpec, IsLawful, TellsChange};
+ghost use Rattle.swc_pass.specs.Pass.{PassSpec, IsLawful, Keeps, TellsChange};
 
 use std::alloc::Global;
 use swc_ast::{Mark, Module, PassError, Script};
@@ -71,30 +71,58 @@ pub trait Pass: Repeated {
         ensures refused { OnErr result ((Self.is_changed self.new ≡ false) × (Self.is_reached self.new ≡ false) × (Self.rounds_run self.new ≡ 0)) }
         ensures memory { IfErr result (λ e. e ≡ OutOfMemory) };
 
-    /// What the pass makes of a copy of a module. It refuses where memory runs out; the pass may run again then.
+    /// What the pass makes of a module that it takes, and what its laws say of that. It refuses where memory runs out; the pass
+    /// may run again then.
+    fn fold_module(&mut self, alloc: Global, module: Module) -> Result<Module, PassError>
+        ensures settings { settings self.new ≡ settings self.old }
+        ensures answer { IfOk result (λ r. (spec (settings self.old)).answers (module_tree «module») (module_tree r)) }
+        ensures kept { IfOk result (λ r. Keeps (spec (settings self.old)) (module_tree «module») (module_tree r)) }
+        ensures changed { IfOk result (λ r. TellsChange (Self.is_changed self.new) (module_tree «module») (module_tree r)) }
+        ensures refused { OnErr result ((Self.is_changed self.new ≡ false) × (Self.is_reached self.new ≡ false) × (Self.rounds_run self.new ≡ 0)) }
+        ensures memory { IfErr result (λ e. e ≡ OutOfMemory) }
+    {
+        self.rewrite(alloc, module)
+    }
+
+    /// What the pass makes of a script that it takes, and what its laws say of that. It refuses where memory runs out; the pass
+    /// may run again then.
+    fn fold_script(&mut self, alloc: Global, script: Script) -> Result<Script, PassError>
+        ensures settings { settings self.new ≡ settings self.old }
+        ensures answer { IfOk result (λ r. (spec (settings self.old)).answers (script_tree script) (script_tree r)) }
+        ensures kept { IfOk result (λ r. Keeps (spec (settings self.old)) (script_tree script) (script_tree r)) }
+        ensures changed { IfOk result (λ r. TellsChange (Self.is_changed self.new) (script_tree script) (script_tree r)) }
+        ensures refused { OnErr result ((Self.is_changed self.new ≡ false) × (Self.is_reached self.new ≡ false) × (Self.rounds_run self.new ≡ 0)) }
+        ensures memory { IfErr result (λ e. e ≡ OutOfMemory) }
+    {
+        self.rewrite_script(alloc, script)
+    }
+
+    /// What the pass makes of a copy of a module, and what its laws say of that. It refuses where memory runs out; the pass may run again then.
     fn run(&mut self, alloc: Global, module: &Module) -> Result<Module, PassError>
         ensures settings { settings self.new ≡ settings self.old }
         ensures answer { IfOk result (λ r. (spec (settings self.old)).answers (module_tree «module».now) (module_tree r)) }
+        ensures kept { IfOk result (λ r. Keeps (spec (settings self.old)) (module_tree «module».now) (module_tree r)) }
         ensures changed { IfOk result (λ r. TellsChange (Self.is_changed self.new) (module_tree «module».now) (module_tree r)) }
         ensures refused { OnErr result ((Self.is_changed self.new ≡ false) × (Self.is_reached self.new ≡ false) × (Self.rounds_run self.new ≡ 0)) }
         ensures memory { IfErr result (λ e. e ≡ OutOfMemory) }
     {
         self.reset();
         let copy = module.clone()?;
-        self.rewrite(alloc, copy)
+        self.fold_module(alloc, copy)
     }
 
-    /// What the pass makes of a copy of a script. It refuses where memory runs out; the pass may run again then.
+    /// What the pass makes of a copy of a script, and what its laws say of that. It refuses where memory runs out; the pass may run again then.
     fn run_script(&mut self, alloc: Global, script: &Script) -> Result<Script, PassError>
         ensures settings { settings self.new ≡ settings self.old }
         ensures answer { IfOk result (λ r. (spec (settings self.old)).answers (script_tree script.now) (script_tree r)) }
+        ensures kept { IfOk result (λ r. Keeps (spec (settings self.old)) (script_tree script.now) (script_tree r)) }
         ensures changed { IfOk result (λ r. TellsChange (Self.is_changed self.new) (script_tree script.now) (script_tree r)) }
         ensures refused { OnErr result ((Self.is_changed self.new ≡ false) × (Self.is_reached self.new ≡ false) × (Self.rounds_run self.new ≡ 0)) }
         ensures memory { IfErr result (λ e. e ≡ OutOfMemory) }
     {
         self.reset();
         let copy = script.clone()?;
-        self.rewrite_script(alloc, copy)
+        self.fold_script(alloc, copy)
     }
 
     ghost reset_keeps: { (p q : Self) → Self.resets_to p q → settings q ≡ settings p };

@@ -1,0 +1,88 @@
+//! Modules and scripts alike.
+ghost use Rattle.swc_pass.specs.Chain.{GivesBack};
+ghost use Rattle.std.specs.Prelude.{◌≡◌, ◌↔◌, false, IfOk, IfErr, IsTrue, OnErr};
+ghost use Rattle.swc_ast.specs.Modules.{module_tree, script_tree};
+ghost use Rattle.swc_ast.specs.Tree.{Tree};
+ghost use Rattle.swc_ast.specs.declared.errors.PassError.TheVariants.{OutOfMemory};
+ghost use Rattle.swc_pass.specs.Pass.{SameBare, TellsChange};
+
+use crate::pass::Pass;
+use std::alloc::{AllocError, Global};
+use swc_ast::{EqIgnoreSpan, Module, PassError, Script};
+
+/// What a pass rewrites.
+pub(crate) trait Whole: Drop {
+    ghost tree: { Self → Tree };
+
+    fn copy(&self) -> Result<Self, AllocError>
+        ensures { IfOk result (λ r. tree r ≡ tree self.now) };
+
+    /// Whether the two are equal up to spans.
+    fn is_same(&self, other: &Self) -> bool
+        ensures { IsTrue result ↔ SameBare (tree other.now) (tree self.now) };
+
+    /// What a pass makes of it.
+    fn rewritten<P: Pass>(self, pass: &mut P, alloc: Global) -> Result<Self, PassError>
+        ensures settings { P.settings pass.new ≡ P.settings pass.old }
+        ensures answer { IfOk result (λ r. (P.spec (P.settings pass.old)).answers (tree self) (tree r)) }
+        ensures changed { IfOk result (λ r. TellsChange (P.is_changed pass.new) (tree self) (tree r)) }
+        ensures refused { OnErr result ((P.is_changed pass.new ≡ false) × (P.is_reached pass.new ≡ false) × (P.rounds_run pass.new ≡ 0)) }
+        ensures memory { IfErr result (λ e. e ≡ OutOfMemory) };
+}
+
+impl Whole for Module {
+    ghost tree = { module_tree };
+
+    fn copy(&self) -> Result<Module, AllocError> {
+        self.clone()
+    }
+
+    fn is_same(&self, other: &Module) -> bool {
+        self.eq_ignore_span(other)
+    }
+
+    fn rewritten<P: Pass>(self, pass: &mut P, alloc: Global) -> Result<Module, PassError> {
+        pass.rewrite(alloc, self)
+    }
+}
+
+impl Whole for Script {
+    ghost tree = { script_tree };
+
+    fn copy(&self) -> Result<Script, AllocError> {
+        self.clone()
+    }
+
+    fn is_same(&self, other: &Script) -> bool {
+        self.eq_ignore_span(other)
+    }
+
+    fn rewritten<P: Pass>(self, pass: &mut P, alloc: Global) -> Result<Script, PassError> {
+        pass.rewrite_script(alloc, self)
+    }
+}
+
+/// What a run made, and whether it differs from what the run was given.
+#[derive(Drop)]
+pub(crate) struct Made<W> {
+    pub(crate) whole: W,
+    pub(crate) changed: bool,
+}
+
+/// The answer, or the input where they are equal up to spans.
+pub(crate) fn settle<W: Whole>(input: W, answer: W) -> Made<W>
+    ensures gives { GivesBack (W.tree input) (W.tree answer) (W.tree result.whole) }
+    ensures changed { TellsChange result.changed (W.tree input) (W.tree result.whole) }
+{
+    if answer.is_same(&input) {
+        Made {
+            whole: input,
+            changed: false,
+        }
+    } else {
+        Made {
+            whole: answer,
+            changed: true,
+        }
+    }
+}
