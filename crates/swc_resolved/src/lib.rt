@@ -1,0 +1,5 @@
+//! Whether a tree is resolved.
+#![tactic(auto)]
+
+mod jumps;
+mod names;
