@@ -1,5 +1,6 @@
 //! Whether a tree is resolved.
 #![tactic(auto)]
 
+mod declared;
 mod jumps;
 mod names;
