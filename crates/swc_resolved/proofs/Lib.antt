@@ -2,3 +2,4 @@ pub mod Sizes
 pub mod Sets
 pub mod Aimed
 pub mod Gathered
+pub mod Halves

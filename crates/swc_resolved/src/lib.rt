@@ -2,5 +2,6 @@
 #![tactic(auto)]
 
 mod declared;
+mod functions;
 mod jumps;
 mod names;
