@@ -7,8 +7,9 @@ use Rattle.swc_ast.specs.declared.Span.{Span}
 use Rattle.swc_ast.specs.declared.VarDeclKind.TheVariants.{Var, Let, Const}
 use Rattle.swc_ast.specs.Tree as tree
 use Rattle.swc_ast.specs.Tree.{Name, Label, Tree, node, Forest, ε, ◌⊳◌}
-use Rattle.swc_ast.specs.Scope.{Declared, vars, vars_all, own_vars, holds_statements, declared, declared_by, declared_by_label, as_lexicals, declarator_name, declarator_names, param_name, imported_name, specifier_names, import_names_of, body_statements, case_statements, joined}
-use Rattle.swc_ast.specs.Resolved.{first_names}
+use Rattle.swc_ast.specs.Scope.{Declared, vars, vars_all, own_vars, holds_statements, declared, declared_by, declared_by_label, as_lexicals, declarator_name, declarator_names, param_name, imported_name, specifier_names, import_names_of, import_names, body_statements, case_statements, joined}
+use Rattle.swc_ast.specs.Meaning.{head_names, first_tree}
+use Rattle.swc_ast.specs.Resolved.{first_names, declared_names}
 use Rattle.swc_static.proofs.Names.{first_names_append}
 use Rattle.swc_visit.specs.Nodes.{Opens, label_of, children_of}
 use Rattle.swc_visit.proofs.Caps.{tree_size, forest_size}
@@ -206,3 +207,14 @@ case_below p t l cs whole labelled held is = sym (cases_as p t l cs whole labell
 
 pub no_case : (p : Part) (t : Tree) (l : Label) → p ≡ part.Cases → label_of t ≡ l → is_case_body l ≡ false → [] ≡ tree_names p t
 no_case p t l whole labelled is = sym (cases_as p t l (children_of t) whole labelled refl ∙ ap (λ ts. first_names (declared ts)) (no_case_label l (children_of t) is))
+
+-- what several parts give
+
+pub both_added : (xs ys zs a b : List Name) → ys ≡ xs ++ a → zs ≡ ys ++ b → zs ≡ xs ++ (a ++ b)
+both_added xs ys zs a b e f = f ∙ ap (λ us. us ++ b) e ∙ append_assoc xs a b
+
+pub no_head : (us : Forest) → us ≡ ε → [] ≡ first_names (head_names (first_tree us))
+no_head us is = sym (ap (λ ts. first_names (head_names (first_tree ts))) is)
+
+pub head_first : (t : Tree) (ts us : Forest) → us ≡ t ⊳ ts → tree_names part.Declarations t ≡ first_names (head_names (first_tree us))
+head_first t ts us is = ap first_names (sym (append-nil (declared_by t))) ∙ sym (ap (λ vs. first_names (head_names (first_tree vs))) is)

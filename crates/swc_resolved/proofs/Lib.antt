@@ -3,3 +3,4 @@ pub mod Sets
 pub mod Aimed
 pub mod Gathered
 pub mod Halves
+pub mod Binding

@@ -1,15 +1,20 @@
 //! The names that trees give to scopes.
 ghost use Rattle.std.specs.Prelude.{◌≡◌, ◌++◌, OnOk};
+ghost use Rattle.swc_ast.specs.Meaning.{head_names, first_tree};
+ghost use Rattle.swc_ast.specs.Parts.{option_ident_name};
+ghost use Rattle.swc_ast.specs.Resolved.{first_names, declared_names, catch_name};
+ghost use Rattle.swc_ast.specs.Scope.{holds_statements as is_holder, own_vars, declarator_name as label_declarator, param_name as label_param, imported_name as label_imported, option_name};
+ghost use Rattle.swc_ast.specs.Statements.{handler_param};
 ghost use Rattle.swc_ast.specs.Tree.{ε};
-ghost use Rattle.swc_ast.specs.Scope.{holds_statements as is_holder, own_vars, declarator_name as label_declarator, param_name as label_param, imported_name as label_imported};
 ghost use Rattle.swc_visit.specs.Kinds.{kind_label};
 ghost use Rattle.swc_visit.specs.Nodes.{Opens, node_tree, children_forest};
 ghost use Rattle.swc_resolved.specs.Names.{names as tree_names_of};
 ghost use Rattle.swc_resolved.specs.Parts.{optional, tree_names, forest_names, label_names, declaring, is_export as is_export_label, is_lexical as is_lexical_label, is_import as is_import_label, is_case_body as is_case_label};
+ghost use Rattle.swc_resolved.specs.Scopes.{own_names};
 
 use crate::names::Name;
 use std::alloc::AllocError;
-use swc_ast::VarDeclKind;
+use swc_ast::{CatchClause, Ident, VarDeclKind};
 use swc_visit::{Children, Kind, Node, Opened};
 
 /// What of a list of nodes gives names to the scope.
@@ -224,5 +229,69 @@ fn is_case_body(kind: Kind<'_>) -> bool
     match kind {
         Kind::CaseBody => true,
         _ => false,
+    }
+}
+
+/// Adds what a body declares.
+pub(crate) fn add_body<'a>(
+    names: &mut Vec<Name<'a>>,
+    body: Children<'a>,
+) -> Result<(), AllocError>
+    ensures { OnOk result (tree_names_of names.new.items ≡ tree_names_of names.old.items ++ declared_names (children_forest body.entry)) }
+{
+    add_names(names, body, Part::Vars)?;
+    add_names(names, body, Part::Declarations)
+}
+
+/// Adds the names that a node binds in a scope of its own, those of a function's parameters and
+/// body aside.
+#[tactic(auto, using(crate::proofs::Gathered::nothing_more))]
+pub(crate) fn add_own_names<'a>(
+    names: &mut Vec<Name<'a>>,
+    kind: Kind<'a>,
+    children: Children<'a>,
+) -> Result<(), AllocError>
+    ensures { OnOk result (tree_names_of names.new.items ≡ tree_names_of names.old.items ++ own_names (kind_label kind.entry) (children_forest children.entry)) }
+{
+    match kind {
+        Kind::Fn(name) => add_optional(names, optional_name(name)),
+        Kind::Block => add_names(names, children, Part::Declarations),
+        Kind::For => add_head(names, children),
+        Kind::Switch(_) => add_names(names, children, Part::Cases),
+        Kind::Try(handler) => add_optional(names, caught_name(handler)),
+        Kind::Module => {
+            add_names(names, children, Part::Imports)?;
+            add_body(names, children)
+        }
+        Kind::Script => add_body(names, children),
+        _ => Ok(()),
+    }
+}
+
+/// Adds what the first part of a `for` declares.
+fn add_head<'a>(names: &mut Vec<Name<'a>>, children: Children<'a>) -> Result<(), AllocError>
+    ensures { OnOk result (tree_names_of names.new.items ≡ tree_names_of names.old.items ++ first_names (head_names (first_tree (children_forest children.entry)))) }
+{
+    match children.next() {
+        None => Ok(()),
+        Some((head, _)) => add_names_of(names, head, Part::Declarations),
+    }
+}
+
+fn optional_name<'a>(name: &'a Option<Ident>) -> Option<Name<'a>>
+    ensures { optional result ≡ option_name (option_ident_name name.now) }
+{
+    match name {
+        None => None,
+        Some(name) => Some(Name::of(name)),
+    }
+}
+
+fn caught_name<'a>(handler: &'a Option<CatchClause>) -> Option<Name<'a>>
+    ensures { optional result ≡ catch_name (handler_param handler.now) }
+{
+    match handler {
+        None => None,
+        Some(clause) => optional_name(&clause.param),
     }
 }

@@ -5,3 +5,4 @@ mod declared;
 mod functions;
 mod jumps;
 mod names;
+mod scopes;

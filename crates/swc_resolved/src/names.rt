@@ -77,7 +77,7 @@ impl<'a> Taken<'a> {
     }
 
     /// No further scope may bind a name. Fails where memory is refused.
-    fn add(&mut self, x: Name<'a>) -> Result<(), AllocError>
+    pub(crate) fn add(&mut self, x: Name<'a>) -> Result<(), AllocError>
         ensures { OnOk result ((y : tree.Name) → is_taken self.new y ≡ (is_taken self.old y || same_name y (name x.entry))) }
     {
         self.names.insert(x)?;
