@@ -4,3 +4,6 @@ pub mod Aimed
 pub mod Gathered
 pub mod Halves
 pub mod Binding
+pub mod Specifiers
+pub mod Beside
+pub mod Verdict

@@ -2,3 +2,4 @@ pub mod Jumps
 pub mod Names
 pub mod Parts
 pub mod Scopes
+pub mod Exports

@@ -1,5 +1,6 @@
 -- Names, and the names that are taken.
 use Rattle.std.specs.Prelude.{ℕ, Bool, not, ◌&&◌, ◌||◌, List, map}
+use Rattle.swc_ast.specs.Marks.{mark_number}
 use Rattle.swc_ast.specs.Tree as tree
 use Rattle.swc_ast.specs.Tree.{same_name}
 use Rattle.swc_ast.specs.Scope.{has_name}
@@ -22,4 +23,4 @@ is_free mark x = is_unresolved mark x && not (is_default x)
 
 -- a name that no scope may bind any more
 abbrev pub is_taken : Taken → tree.Name → Bool
-is_taken s x = is_free s.unresolved.0 x || has_name x (names s.names.keys)
+is_taken s x = is_free (mark_number s.unresolved_mark) x || has_name x (names s.names.keys)

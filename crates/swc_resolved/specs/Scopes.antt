@@ -1,10 +1,11 @@
 -- What a scope binds, and what is left free where scopes are bound one by one.
-use Rattle.std.specs.Prelude.{ℕ, ◌+◌, ◌≤◌, ◌≡◌, Bool, true, false, List, [], ◌++◌}
+use Rattle.std.specs.Prelude.{ℕ, ◌+◌, ◌≤◌, ◌≡◌, Bool, true, false, List, [], ◌++◌, if◌then◌else◌}
 use Rattle.swc_ast.specs.Tree as tree
 use Rattle.swc_ast.specs.Tree.{Name, Label, Tree, node, Forest, ε, ◌⊳◌}
-use Rattle.swc_ast.specs.Scope.{option_name, declared, case_statements, import_names}
+use Rattle.swc_ast.specs.Scope.{is_function, option_name, declared, case_statements, import_names}
 use Rattle.swc_ast.specs.Meaning.{head_names, first_tree}
-use Rattle.swc_ast.specs.Resolved.{one_if, catch_name, first_names, declared_names, params_of, body_of}
+use Rattle.swc_ast.specs.Resolved.{one_if, catch_name, first_names, declared_names, params_of, body_of, params_apart, scopes, own_exports_bound}
+use Rattle.swc_resolved.specs.Names.{is_free}
 use Rattle.swc_resolved.specs.declared.functions.Half.{Half}
 use Rattle.swc_resolved.specs.declared.functions.Half.TheVariants as half
 
@@ -40,3 +41,11 @@ is_defaulted _ ds = false
 abbrev pub Binds : Bool → (Name → Bool) → (Name → Bool) → (Name → ℕ) → Type 0
 Binds true old new more = (x : Name) → one_if (new x) ≡ one_if (old x) + more x
 Binds false old new more = (x : Name) × (2 ≤ one_if (old x) + more x)
+
+-- a function's parameters, where one has a default, and its body declare no text in common
+abbrev pub own_apart : Label → Forest → Bool
+own_apart l cs = if is_function l then params_apart cs else true
+
+-- No name is bound twice, no unresolved name is bound, and what is exported by name is bound.
+abbrev pub BindsWell : ℕ → Tree → Type 0
+BindsWell mark t = ((x : Name) → one_if (is_free mark x) + scopes x t ≤ 1) × (own_exports_bound t ≡ true)

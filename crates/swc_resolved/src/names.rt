@@ -42,9 +42,10 @@ impl<'a> Name<'a> {
     }
 
     /// Whether the name is unresolved for a mark, that of a default export aside.
-    fn is_free(self, unresolved: SyntaxContext) -> bool
-        ensures { result ≡ is_free unresolved.0 (name self.entry) }
+    pub(crate) fn is_free(self, unresolved_mark: Mark) -> bool
+        ensures { result ≡ is_free (mark_number unresolved_mark) (name self.entry) }
     {
+        let unresolved = SyntaxContext::empty().apply_mark(unresolved_mark);
         (self.context == SyntaxContext::empty() || self.context == unresolved)
             && self != Name::of_default()
     }
@@ -55,7 +56,7 @@ impl<'a> Name<'a> {
 #[derive(Drop)]
 pub(crate) struct Taken<'a> {
     names: HashSet<Name<'a>>,
-    unresolved: SyntaxContext,
+    unresolved_mark: Mark,
 }
 
 impl<'a> Taken<'a> {
@@ -65,7 +66,7 @@ impl<'a> Taken<'a> {
     {
         Taken {
             names: HashSet::new(alloc),
-            unresolved: SyntaxContext::empty().apply_mark(unresolved_mark),
+            unresolved_mark,
         }
     }
 
@@ -73,7 +74,7 @@ impl<'a> Taken<'a> {
     pub(crate) fn contains(&self, x: Name<'a>) -> bool
         ensures { result ≡ is_taken self.now (name x.entry) }
     {
-        x.is_free(self.unresolved) || self.names.contains(&x)
+        x.is_free(self.unresolved_mark) || self.names.contains(&x)
     }
 
     /// No further scope may bind a name. Fails where memory is refused.
