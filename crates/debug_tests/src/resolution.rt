@@ -83,11 +83,20 @@ fn answer_of(m: &Module) -> Result<bool, Fail> {
 #[test]
 fn functions_blocks_and_labels_are_resolved(rt: HostRuntime) -> Result<(), Fail> {
     let alloc = rt.alloc();
-    let mut stmts = one(alloc, declare(alloc, VarDeclKind::Let, ident(alloc, "x", 2)?)?)?;
-    stmts.push(block(one(alloc, declare(alloc, VarDeclKind::Let, ident(alloc, "x", 3)?)?)?))?;
+    let mut stmts = one(
+        alloc,
+        declare(alloc, VarDeclKind::Let, ident(alloc, "x", 2)?)?,
+    )?;
+    stmts.push(block(one(
+        alloc,
+        declare(alloc, VarDeclKind::Let, ident(alloc, "x", 3)?)?,
+    )?))?;
     stmts.push(labeled(alloc, "a", block(one(alloc, break_to(alloc, "a")?)?))?)?;
     let params = one(alloc, Pat::Ident(ident(alloc, "x", 4)?))?;
-    let inner = one(alloc, declare(alloc, VarDeclKind::Var, ident(alloc, "x", 4)?)?)?;
+    let inner = one(
+        alloc,
+        declare(alloc, VarDeclKind::Var, ident(alloc, "x", 4)?)?,
+    )?;
     stmts.push(function(alloc, ident(alloc, "f", 2)?, params, inner)?)?;
     assert!(rt; answer(alloc, block(stmts))?);
     let s = declare(alloc, VarDeclKind::Var, ident(alloc, "x", 2)?)?;
@@ -101,10 +110,19 @@ fn functions_blocks_and_labels_are_resolved(rt: HostRuntime) -> Result<(), Fail>
 #[test]
 fn a_name_is_bound_by_one_scope(rt: HostRuntime) -> Result<(), Fail> {
     let alloc = rt.alloc();
-    let mut stmts = one(alloc, declare(alloc, VarDeclKind::Let, ident(alloc, "x", 2)?)?)?;
-    stmts.push(block(one(alloc, declare(alloc, VarDeclKind::Let, ident(alloc, "x", 2)?)?)?))?;
+    let mut stmts = one(
+        alloc,
+        declare(alloc, VarDeclKind::Let, ident(alloc, "x", 2)?)?,
+    )?;
+    stmts.push(block(one(
+        alloc,
+        declare(alloc, VarDeclKind::Let, ident(alloc, "x", 2)?)?,
+    )?))?;
     assert!(rt; !answer(alloc, block(stmts))?);
-    let mut stmts = one(alloc, declare(alloc, VarDeclKind::Var, ident(alloc, "x", 2)?)?)?;
+    let mut stmts = one(
+        alloc,
+        declare(alloc, VarDeclKind::Var, ident(alloc, "x", 2)?)?,
+    )?;
     stmts.push(declare(alloc, VarDeclKind::Var, ident(alloc, "x", 2)?)?)?;
     assert!(rt; answer(alloc, block(stmts))?);
     Ok(())
@@ -145,7 +163,10 @@ fn no_parameter_is_declared_beside_a_default(rt: HostRuntime) -> Result<(), Fail
         let right = Box::new(alloc, number(1))?;
         let span = span();
         let params = one(alloc, Pat::Assign(AssignPat { span, left, right }))?;
-        let inner = one(alloc, declare(alloc, VarDeclKind::Let, ident(alloc, text, 4)?)?)?;
+        let inner = one(
+            alloc,
+            declare(alloc, VarDeclKind::Let, ident(alloc, text, 4)?)?,
+        )?;
         let f = function(alloc, ident(alloc, "f", 2)?, params, inner)?;
         assert!(rt; answer(alloc, f)? == is_apart);
     }
@@ -156,11 +177,21 @@ fn no_parameter_is_declared_beside_a_default(rt: HostRuntime) -> Result<(), Fail
 fn exports_are_bound_by_the_module(rt: HostRuntime) -> Result<(), Fail> {
     let alloc = rt.alloc();
     for (text, is_bound) in [("x", true), ("y", false)] {
-        let mut m = module(alloc, declare(alloc, VarDeclKind::Let, ident(alloc, "x", 2)?)?)?;
+        let mut m = module(
+            alloc,
+            declare(alloc, VarDeclKind::Let, ident(alloc, "x", 2)?)?,
+        )?;
         let orig = ident(alloc, text, 2)?;
         let span = span();
         let exported = None;
-        let specifiers = one(alloc, ExportNamedSpecifier { span, orig, exported })?;
+        let specifiers = one(
+            alloc,
+            ExportNamedSpecifier {
+                span,
+                orig,
+                exported,
+            },
+        )?;
         let export = ModuleDecl::ExportNamed(NamedExport { span, specifiers });
         m.body.push(ModuleItem::ModuleDecl(export))?;
         assert!(rt; answer_of(&m)? == is_bound);

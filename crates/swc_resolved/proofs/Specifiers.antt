@@ -80,5 +80,5 @@ pub exports_are : (mark : ℕ) (old new : Name → Bool) (t : Tree) (l : Label) 
 exports_are mark old new t l cs labelled held free bound =
     let f : Name → Bool = λ x. new x && not (is_free mark x) in
     sym (ap₂ (own_exports f) labelled held) ∙ as_module f t (λ ds is. same_exports f (module_binds (children_of t)) (λ x.
-        bound_here (new x) (is_free mark x) (module_binds (children_of t) x)
-            (bound x ∙ ap₂ (λ (b : Bool) (n : ℕ). one_if b + n) (free x) (sym (ap₂ (own_scopes x) labelled held) ∙ ap (λ k. own_scopes x k (children_of t)) is ∙ module_scope x (children_of t)))) (children_of t))
+    bound_here (new x) (is_free mark x) (module_binds (children_of t) x)
+    (bound x ∙ ap₂ (λ (b : Bool) (n : ℕ). one_if b + n) (free x) (sym (ap₂ (own_scopes x) labelled held) ∙ ap (λ k. own_scopes x k (children_of t)) is ∙ module_scope x (children_of t)))) (children_of t))

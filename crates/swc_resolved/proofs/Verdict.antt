@@ -43,7 +43,8 @@ resolved mark t well jumps params = record {
   none_unresolved = λ x u d. none_left (is_free mark x) (scopes x t) (not_free (is_unresolved mark x) (is_default x) u d) (well.0 x);
   jumps_aimed = jumps;
   params_stand_apart = params;
-  exports_are_bound = well.1 }
+  exports_are_bound = well.1;
+}
 
 none_free : (u d : Bool) (n : ℕ) → n ≤ 1 → (u ≡ true → d ≡ false → n ≡ 0) → one_if (u && not d) + n ≤ 1
 none_free true true n h f = omega (arith, h)

@@ -33,11 +33,7 @@ pub(crate) fn is_apart(n: Node<'_>, alloc: Global) -> Result<bool, AllocError>
 }
 
 #[tactic(auto, using(crate::proofs::Beside::function_apart))]
-fn is_own_apart(
-    kind: Kind<'_>,
-    children: Children<'_>,
-    alloc: Global,
-) -> Result<bool, AllocError>
+fn is_own_apart(kind: Kind<'_>, children: Children<'_>, alloc: Global) -> Result<bool, AllocError>
     ensures { IfOk result (λ b. b ≡ own_apart (kind_label kind.entry) (children_forest children.entry)) }
 {
     if !is_function(kind) {

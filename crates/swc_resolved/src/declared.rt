@@ -55,11 +55,7 @@ pub(crate) fn add_names<'a>(
 
 #[cycle(names)]
 #[tactic(auto, using(crate::proofs::Gathered::vars_below, crate::proofs::Gathered::vars_alone, crate::proofs::Gathered::declarators, crate::proofs::Gathered::lone, crate::proofs::Gathered::specifiers, crate::proofs::Gathered::no_import, crate::proofs::Gathered::case_below, crate::proofs::Gathered::no_case, crate::proofs::Gathered::declarator, crate::proofs::Gathered::param, crate::proofs::Gathered::imported))]
-fn add_names_of<'a>(
-    names: &mut Vec<Name<'a>>,
-    n: Node<'a>,
-    part: Part,
-) -> Result<(), AllocError>
+fn add_names_of<'a>(names: &mut Vec<Name<'a>>, n: Node<'a>, part: Part) -> Result<(), AllocError>
     ensures { OnOk result (tree_names_of names.new.items ≡ tree_names_of names.old.items ++ tree_names part (node_tree n.entry)) }
 {
     let opened = n.open();
@@ -233,10 +229,7 @@ fn is_case_body(kind: Kind<'_>) -> bool
 }
 
 /// Adds what a body declares.
-pub(crate) fn add_body<'a>(
-    names: &mut Vec<Name<'a>>,
-    body: Children<'a>,
-) -> Result<(), AllocError>
+pub(crate) fn add_body<'a>(names: &mut Vec<Name<'a>>, body: Children<'a>) -> Result<(), AllocError>
     ensures { OnOk result (tree_names_of names.new.items ≡ tree_names_of names.old.items ++ declared_names (children_forest body.entry)) }
 {
     add_names(names, body, Part::Vars)?;

@@ -38,11 +38,7 @@ pub fn is_script_resolved(s: &Script, unresolved_mark: Mark) -> Result<bool, Pas
     Ok(answer)
 }
 
-fn is_tree_resolved(
-    n: Node<'_>,
-    unresolved_mark: Mark,
-    alloc: Global,
-) -> Result<bool, AllocError>
+fn is_tree_resolved(n: Node<'_>, unresolved_mark: Mark, alloc: Global) -> Result<bool, AllocError>
     ensures { IfOk result (λ b. IsTrue b ↔ IsResolved (mark_number unresolved_mark) (node_tree n.entry)) }
 {
     let is_bound = binds_well(n, unresolved_mark, alloc)?;

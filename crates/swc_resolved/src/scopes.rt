@@ -53,11 +53,7 @@ impl<'a> Taken<'a> {
     }
 
     /// Binds the scopes of a function's parameters and body: one, or two beside a default.
-    fn bind_function(
-        &mut self,
-        children: Children<'a>,
-        alloc: Global,
-    ) -> Result<bool, AllocError>
+    fn bind_function(&mut self, children: Children<'a>, alloc: Global) -> Result<bool, AllocError>
         ensures { IfOk result (λ b. Binds b (is_taken self.old) (is_taken self.new) (λ x. function_scopes x (children_forest children.entry))) }
     {
         let params = half_of(children, Half::Params);

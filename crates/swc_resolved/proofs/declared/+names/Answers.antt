@@ -8,9 +8,10 @@ use Rattle.swc_resolved.proofs.declared.+names.Goals as goal
 
 pub add_names-loop-child-preserved : goal.add_names-loop-child-preserved
 add_names-loop-child-preserved t c =
-    let is = c.next.ensures ∙ ap next_forest c.in-Some.is in
-    (goes_on c.args.part (node_tree c.in-Some.child) (children_forest c.in-Some.rest) (children_forest c.loop-child.left) (names c.loop-child.names.items) (names c.add_names_of.new.names.items) (names c.args.names.now.items ++ _) is c.in_ok-add_names_of.ensures c.loop-child.invariant.0,
-     rest_within (node_tree c.in-Some.child) (children_forest c.in-Some.rest) (children_forest c.loop-child.left) (children_forest c.args.children) is c.loop-child.invariant.1)
+    let is = c.next.ensures ∙ ap next_forest c.in-Some.is in (
+      goes_on c.args.part (node_tree c.in-Some.child) (children_forest c.in-Some.rest) (children_forest c.loop-child.left) (names c.loop-child.names.items) (names c.add_names_of.new.names.items) (names c.args.names.now.items ++ _) is c.in_ok-add_names_of.ensures c.loop-child.invariant.0,
+      rest_within (node_tree c.in-Some.child) (children_forest c.in-Some.rest) (children_forest c.loop-child.left) (children_forest c.args.children) is c.loop-child.invariant.1,
+    )
 
 pub add_names_of-add_names-requires-then-is_lexical : goal.add_names_of-add_names-requires-then-is_lexical
 add_names_of-add_names-requires-then-is_lexical t c = (let h = declaration_falls (node_tree c.args.n) (children_forest c.declaration-declaration.result.children) c.declaration-declaration.ensures.1 in omega (arith, h, c.decreases), tt)
@@ -19,5 +20,5 @@ pub add_names_of-returns-then-is_lexical : goal.add_names_of-returns-then-is_lex
 add_names_of-returns-then-is_lexical t c =
     let opened = c.declaration-declaration.ensures in
     subst (λ ys. OnOk c.add_names-then-is_lexical.result (names c.add_names-then-is_lexical.new.names.items ≡ names c.args.names.now.items ++ ys))
-        (declarators c.args.part (node_tree c.args.n) (kind_label c.declaration-declaration.result.kind) (children_forest c.declaration-declaration.result.children) c.in-Declarations.is opened.0 opened.1 (sym c.is_lexical.ensures ∙ c.if-is_lexical.true))
-        c.add_names-then-is_lexical.ensures
+    (declarators c.args.part (node_tree c.args.n) (kind_label c.declaration-declaration.result.kind) (children_forest c.declaration-declaration.result.children) c.in-Declarations.is opened.0 opened.1 (sym c.is_lexical.ensures ∙ c.if-is_lexical.true))
+    c.add_names-then-is_lexical.ensures

@@ -15,7 +15,7 @@ returns-then-not-is_function c =
     let plain : is_function l ≡ false = sym c.is_function.ensures ∙ c.if-not-is_function.true in
     let own : names c.deref.result.now ≡ own_names l cs = ap names c.deref.ensures.value ∙ gathered_one c.new-names.result.items (names c.add_own_names.new.names.items) (own_names l cs) c.new-names.ensures.items c.in_ok-add_own_names.ensures in
     last_binds_as c.bind_scope.result (is_taken c.args.self.now) (is_taken c.bind_scope.new.self) (λ x. one_if (has_name x (names c.deref.result.now))) (λ x. own_scopes x l cs)
-        (λ x. ap (λ ns. one_if (has_name x ns)) own ∙ no_function x l cs plain) c.bind_scope.ensures
+    (λ x. ap (λ ns. one_if (has_name x ns)) own ∙ no_function x l cs plain) c.bind_scope.ensures
 
 pub returns-then-not-branch : goal.returns-then-not-branch
 returns-then-not-branch c =
@@ -23,7 +23,7 @@ returns-then-not-branch c =
     let is : is_function l ≡ true = sym c.is_function.ensures ∙ c.if-not-is_function.false in
     let own : names c.deref-2.result.now ≡ own_names l cs = ap names c.deref-2.ensures.value ∙ gathered_one c.new-names.result.items (names c.add_own_names.new.names.items) (own_names l cs) c.new-names.ensures.items c.in_ok-add_own_names.ensures in
     stops_here (is_taken c.args.self.now) (is_taken c.bind_scope-2.new.self) (is_taken c.bind_scope-2.new.self) (λ x. one_if (has_name x (names c.deref-2.result.now))) (λ x. function_scopes x cs) (λ x. own_scopes x l cs)
-        (λ x. with_function x l cs is ∙ ap (λ ns. one_if (has_name x ns) + function_scopes x cs) (sym own)) (subst (λ b. Binds b (is_taken c.args.self.now) (is_taken c.bind_scope-2.new.self) (λ x. one_if (has_name x (names c.deref-2.result.now)))) c.if-not-branch.true c.in_ok-bind_scope.ensures)
+    (λ x. with_function x l cs is ∙ ap (λ ns. one_if (has_name x ns) + function_scopes x cs) (sym own)) (subst (λ b. Binds b (is_taken c.args.self.now) (is_taken c.bind_scope-2.new.self) (λ x. one_if (has_name x (names c.deref-2.result.now)))) c.if-not-branch.true c.in_ok-bind_scope.ensures)
 
 pub returns : goal.returns
 returns c =
@@ -31,4 +31,4 @@ returns c =
     let is : is_function l ≡ true = sym c.is_function.ensures ∙ c.if-not-is_function.false in
     let own : names c.deref-2.result.now ≡ own_names l cs = ap names c.deref-2.ensures.value ∙ gathered_one c.new-names.result.items (names c.add_own_names.new.names.items) (own_names l cs) c.new-names.ensures.items c.in_ok-add_own_names.ensures in
     last_binds c.bind_function.result (is_taken c.args.self.now) (is_taken c.bind_scope-2.new.self) (is_taken c.bind_function.new.self) (λ x. one_if (has_name x (names c.deref-2.result.now))) (λ x. function_scopes x cs) (λ x. own_scopes x l cs)
-        (λ x. with_function x l cs is ∙ ap (λ ns. one_if (has_name x ns) + function_scopes x cs) (sym own)) (subst (λ b. Binds b (is_taken c.args.self.now) (is_taken c.bind_scope-2.new.self) (λ x. one_if (has_name x (names c.deref-2.result.now)))) c.if-not-branch.false c.in_ok-bind_scope.ensures) c.bind_function.ensures
+    (λ x. with_function x l cs is ∙ ap (λ ns. one_if (has_name x ns) + function_scopes x cs) (sym own)) (subst (λ b. Binds b (is_taken c.args.self.now) (is_taken c.bind_scope-2.new.self) (λ x. one_if (has_name x (names c.deref-2.result.now)))) c.if-not-branch.false c.in_ok-bind_scope.ensures) c.bind_function.ensures
