@@ -1,0 +1,9 @@
+pub mod Sizes
+pub mod Sets
+pub mod Aimed
+pub mod Gathered
+pub mod Halves
+pub mod Binding
+pub mod Specifiers
+pub mod Beside
+pub mod Verdict

@@ -1,0 +1,5 @@
+pub mod Jumps
+pub mod Names
+pub mod Parts
+pub mod Scopes
+pub mod Exports
