@@ -3,6 +3,12 @@ use Rattle.std.specs.Prelude.{ℕ, Bool, true, false, not, ◌&&◌, ◌||◌, i
 use Rattle.swc_ast.specs.Tree.{Name, Read, Dot, Index, Tree, node}
 use Rattle.swc_ast.specs.Value.{Value, Undefined, NaN}
 use Rattle.swc_ast.specs.Meaning.{is_unresolved}
+use Rattle.swc_ast.specs.Marks.{context_number}
+use Rattle.swc_utils.specs.declared.context.ExprCtx.{ExprCtx}
+
+-- the number of the context of unresolved names
+abbrev pub unresolved : ExprCtx → ℕ
+unresolved c = context_number c.unresolved_ctxt
 
 -- the value that the host's name of a text stands for, in each world
 abbrev pub constant : List ℕ → Option Value

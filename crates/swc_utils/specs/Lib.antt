@@ -5,3 +5,4 @@ pub mod Types
 pub mod Literals
 pub mod Holds
 pub mod Sound
+pub mod Effects

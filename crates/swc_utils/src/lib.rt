@@ -2,5 +2,9 @@
 #![tactic(auto)]
 
 mod answers;
+mod context;
+mod operators;
+mod purity;
 
 pub use answers::{Purity, Value, ValueType};
+pub use context::ExprCtx;
