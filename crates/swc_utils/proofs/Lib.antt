@@ -6,3 +6,4 @@ pub mod Sound
 pub mod PureNodes
 pub mod Bodies
 pub mod Items
+pub mod GlobalNodes

@@ -1,17 +1,22 @@
 -- The answers on an expression hold in each of its runs.
-use Rattle.std.proofs.Common.{◌≡◌, ℕ, Bool, true, List, Some}
-use Rattle.swc_ast.specs.Tree.{Tree}
-use Rattle.swc_ast.specs.Meaning.{eval}
+use Rattle.std.proofs.Common.{◌≡◌, ℕ, Bool, true, false, ◌&&◌, if◌then◌else◌, List, Some, None, refl, sym, ap, bytes_eq, codes}
+use Rattle.std.proofs.lemmas.Bool.{and_parts, false≢true}
+use Rattle.std.proofs.lemmas.Slice.Eq.{bytes_eq-Decides}
+use Rattle.swc_ast.specs.declared.Span.{Span}
+use Rattle.swc_ast.specs.Tree.{Name, Read, Tree, node, Forest}
+use Rattle.swc_ast.specs.Value.{Undefined, NaN}
+use Rattle.swc_ast.specs.Meaning.{is_unresolved, eval}
 use Rattle.swc_ast.specs.Operators.{Numeric}
 use Rattle.swc_ast.specs.Call.{call_at}
 use Rattle.swc_utils.specs.declared.answers.ValueType.{ValueType}
+use Rattle.swc_utils.specs.Globals.{is_global, is_undefined, is_nan}
 use Rattle.swc_utils.specs.Pure.{pure}
 use Rattle.swc_utils.specs.Known.{truth, number, text}
 use Rattle.swc_utils.specs.Types.{type_of}
-use Rattle.swc_utils.specs.Holds.{HasTruth, HasNumber, HasText, HasType}
+use Rattle.swc_utils.specs.Holds.{Is, HasTruth, HasNumber, HasText, HasType}
 use Rattle.swc_utils.specs.Sound.{Always, NoEffect}
 use Rattle.swc_utils.proofs.Pure.{pure_is_still}
-use Rattle.swc_utils.proofs.Known.{truth_holds, number_holds, text_holds}
+use Rattle.swc_utils.proofs.Known.{literal_gives, truth_holds, number_holds, text_holds}
 use Rattle.swc_utils.proofs.Types.{type_holds}
 
 pub pure_sound : (mark : ℕ) (t : Tree) → pure mark t ≡ true → NoEffect mark t
@@ -28,3 +33,32 @@ text_sound mark t s h = record { by = λ n d. text_holds mark n (call_at (eval m
 
 pub type_sound : (mark : ℕ) (t : Tree) (τ : ValueType) → type_of mark t ≡ Some τ → Always mark t (HasType τ)
 type_sound mark t τ h = record { by = λ n d. type_holds mark n (call_at (eval mark n) d) t τ h }
+
+constant_undefined : (mark : ℕ) (ss : List Span) (ts : Forest) (x : Name) → is_global mark (codes "undefined") x ≡ true → Always mark (node (Read x) ss ts) (Is Undefined)
+constant_undefined mark ss ts x h = record { by = λ n d. literal_gives mark n (call_at (eval mark n) d) (Read x) ss ts Undefined (known_undefined (is_unresolved mark x) _ _ h) }
+  where
+    known_undefined : (u a b : Bool) → (u && a) ≡ true → (if u then (if a then Some Undefined else (if b then Some NaN else None)) else None) ≡ Some Undefined
+    known_undefined true true b h = refl
+    known_undefined true false b h = absurd (false≢true h)
+    known_undefined false a b h = absurd (false≢true h)
+
+-- the unresolved `undefined` is undefined
+pub undefined_sound : (mark : ℕ) (t : Tree) → is_undefined mark t ≡ true → Always mark t (Is Undefined)
+undefined_sound mark (node (Read x) ss ts) h = constant_undefined mark ss ts x h
+undefined_sound mark (node l ss ts) h = absurd (false≢true h)
+
+constant_nan : (mark : ℕ) (ss : List Span) (ts : Forest) (x : Name) → is_global mark (codes "NaN") x ≡ true → Always mark (node (Read x) ss ts) (Is NaN)
+constant_nan mark ss ts x h = let p = and_parts _ _ h in record { by = λ n d. literal_gives mark n (call_at (eval mark n) d) (Read x) ss ts NaN (known_nan (is_unresolved mark x) (bytes_eq x.text (codes "undefined")) (bytes_eq x.text (codes "NaN")) p.0 (not_both x.text p.1) p.1) }
+  where
+    known_nan : (u a b : Bool) → u ≡ true → a ≡ false → b ≡ true → (if u then (if a then Some Undefined else (if b then Some NaN else None)) else None) ≡ Some NaN
+    known_nan true false true hu ha hb = refl
+    known_nan true false false hu ha hb = absurd (false≢true hb)
+    known_nan true true b hu ha hb = absurd (false≢true (sym ha))
+    known_nan false a b hu ha hb = absurd (false≢true hu)
+    not_both : (t : List ℕ) → bytes_eq t (codes "NaN") ≡ true → bytes_eq t (codes "undefined") ≡ false
+    not_both t h = ap (λ s. bytes_eq s (codes "undefined")) ((bytes_eq-Decides t (codes "NaN")).0 h)
+
+-- the unresolved `NaN` is NaN
+pub nan_sound : (mark : ℕ) (t : Tree) → is_nan mark t ≡ true → Always mark t (Is NaN)
+nan_sound mark (node (Read x) ss ts) h = constant_nan mark ss ts x h
+nan_sound mark (node l ss ts) h = absurd (false≢true h)

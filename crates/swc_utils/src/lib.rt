@@ -3,8 +3,11 @@
 
 mod answers;
 mod context;
+mod ext;
+mod globals;
 mod operators;
 mod purity;
 
 pub use answers::{Purity, Value, ValueType};
 pub use context::ExprCtx;
+pub use ext::ExprExt;
