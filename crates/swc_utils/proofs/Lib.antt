@@ -7,3 +7,4 @@ pub mod PureNodes
 pub mod Bodies
 pub mod Items
 pub mod GlobalNodes
+pub mod LiteralNodes

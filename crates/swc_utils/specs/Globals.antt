@@ -4,6 +4,8 @@ use Rattle.swc_ast.specs.Tree.{Name, Read, Dot, Index, Tree, node}
 use Rattle.swc_ast.specs.Value.{Value, Undefined, NaN}
 use Rattle.swc_ast.specs.Meaning.{is_unresolved}
 use Rattle.swc_ast.specs.Marks.{context_number}
+use Rattle.swc_utils.specs.declared.context.Constant.{Constant}
+use Rattle.swc_utils.specs.declared.context.Constant.TheVariants.{Undefined as ConstantUndefined, NaN as ConstantNaN}
 use Rattle.swc_utils.specs.declared.context.ExprCtx.{ExprCtx}
 
 -- the number of the context of unresolved names
@@ -44,3 +46,13 @@ abbrev pub directness_matters : ℕ → Tree → Bool
 directness_matters mark (node (Dot k) ss ts) = true
 directness_matters mark (node Index ss ts) = true
 directness_matters mark t = is_global_ref_to mark (codes "eval") t
+
+-- the value of a constant of the host
+abbrev pub constant_value : Constant → Value
+constant_value ConstantUndefined = Undefined
+constant_value ConstantNaN = NaN
+
+-- the same where there may be none
+abbrev pub option_value : Option Constant → Option Value
+option_value None = None
+option_value (Some c) = Some (constant_value c)

@@ -1,10 +1,12 @@
 -- What is known of the value of an expression: its truth, its number and its text. ECMA-262, section 7.1.
-use Rattle.std.specs.Prelude.{ℕ, zero, suc, pos, negsuc, Bool, true, false, not, ◌||◌, nat_le, if◌then◌else◌, List, [], ◌∷◌, ◌++◌, Option, Some, None}
+use Rattle.std.specs.Prelude.{ℕ, zero, suc, pos, negsuc, Bool, true, false, not, ◌||◌, if◌then◌else◌, List, [], ◌∷◌, ◌++◌, Option, Some, None, string_bytes}
 use Rattle.swc_ast.specs.declared.UnaryOp.{UnaryOp}
 use Rattle.swc_ast.specs.declared.UnaryOp.TheVariants.{Minus, Bang, Void}
 use Rattle.swc_ast.specs.declared.BinaryOp.{BinaryOp}
 use Rattle.swc_ast.specs.declared.BinaryOp.TheVariants.{LogicalOr, LogicalAnd}
 use Rattle.swc_ast.specs.declared.AssignOp.TheVariants.{Assign as PlainAssign}
+use Rattle.swc_ast.specs.declared.literals.Lit.{Lit}
+use Rattle.swc_ast.specs.declared.literals.Lit.TheVariants as lit
 use Rattle.swc_ast.specs.Tree.{Label, NumLit, StrLit, BoolLit, NullLit, Read, Template, Array, Object, Fn, Arrow, Unary, Binary, Seq, Assign, AssignDot, AssignIndex, Tree, node, Forest, ε, ◌⊳◌}
 use Rattle.swc_ast.specs.Value.{Value, Undefined, Null, Truth, Num, Text}
 use Rattle.swc_ast.specs.Operators.{Numeric, NotANumber, Whole, whole, truthy, to_number, to_text, number_value}
@@ -19,6 +21,13 @@ literal mark (StrLit t) = Some (Text t)
 literal mark (BoolLit b) = Some (Truth b)
 literal mark NullLit = Some Null
 literal mark _ = None
+
+-- the value of a literal
+abbrev pub lit_value : Lit → Value
+lit_value (lit.Str n) = Text (string_bytes n.value)
+lit_value (lit.Bool n) = Truth n.value
+lit_value (lit.Null n) = Null
+lit_value (lit.Num n) = Num n.value
 
 -- the value of `void` and `!` of a pure operand, by the operand's truth
 abbrev pub unary_known : UnaryOp → Bool → Option Bool → Option Value

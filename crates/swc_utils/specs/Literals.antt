@@ -1,6 +1,9 @@
 -- Expressions that are literals throughout.
 use Rattle.std.specs.Prelude.{Bool, true, false, ◌&&◌, List, [], ◌∷◌}
 use Rattle.swc_ast.specs.Tree.{ItemKind, Plain, NumLit, StrLit, BoolLit, NullLit, Template, Array, Object, KeyValue, PlainKey, Tree, node, Forest, ε, ◌⊳◌}
+use Rattle.swc_ast.specs.declared.expressions.Expr.{Expr}
+use Rattle.swc_ast.specs.declared.expressions.PropName.{PropName}
+use Rattle.swc_ast.specs.declared.expressions.PropName.TheVariants as key
 use Rattle.swc_utils.specs.Pure.{no_trees}
 
 -- neither holes nor spreads
@@ -8,6 +11,11 @@ abbrev pub all_plain : List ItemKind → Bool
 all_plain [] = true
 all_plain (Plain ∷ ks) = all_plain ks
 all_plain (k ∷ ks) = false
+
+-- a key that is not computed
+abbrev pub is_plain_key : PropName Expr → Bool
+is_plain_key (key.Computed n) = false
+is_plain_key _ = true
 
 abbrev mutual
   -- number, text, truth and null literals; templates without expressions; arrays without hole or spread and objects
@@ -27,8 +35,12 @@ abbrev mutual
   all_literal ε = true
   all_literal (t ⊳ ts) = is_literal t && all_literal ts
 
-  -- properties with keys that are not computed, and such values
+  -- a property with a key that is not computed, and such a value
+  pub literal_property : Tree → Bool
+  literal_property (node KeyValue ss (node (PlainKey k) rs ε ⊳ t ⊳ ε)) = is_literal t
+  literal_property _ = false
+
+  -- the same of several
   pub literal_properties : Forest → Bool
   literal_properties ε = true
-  literal_properties (node KeyValue ss (node (PlainKey k) rs ε ⊳ t ⊳ ε) ⊳ ts) = is_literal t && literal_properties ts
-  literal_properties _ = false
+  literal_properties (t ⊳ ts) = literal_property t && literal_properties ts

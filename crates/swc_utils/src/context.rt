@@ -2,9 +2,16 @@
 ghost use Rattle.std.specs.Prelude.{◌≡◌};
 ghost use Rattle.swc_ast.specs.Meaning.{is_unresolved as name_is_unresolved};
 ghost use Rattle.swc_ast.specs.Parts.{ident_name};
-ghost use Rattle.swc_utils.specs.Globals.{unresolved, is_global as name_is_global, is_host_name as name_is_host};
+ghost use Rattle.swc_utils.specs.Globals.{unresolved, is_global as name_is_global, is_host_name as name_is_host, name_value, option_value};
 
 use swc_ast::{Ident, SyntaxContext};
+
+/// A name of the host that stands for one value in each world.
+#[derive(Clone, Copy, Debug, PartialEq, Eq)]
+pub(crate) enum Constant {
+    Undefined,
+    NaN,
+}
 
 /// What tells the names of the host from those of the program.
 #[derive(Clone, Copy, Debug, PartialEq, Eq)]
@@ -36,5 +43,22 @@ impl ExprCtx {
     {
         let text = name.sym.as_str();
         self.is_unresolved(name) && !(text == "undefined" || text == "NaN" || text == "Infinity")
+    }
+
+    /// The value that an unresolved name stands for in each world.
+    pub(crate) fn constant(self, name: &Ident) -> Option<Constant>
+        ensures { option_value result ≡ name_value (unresolved self) (ident_name name.now) }
+    {
+        if !self.is_unresolved(name) {
+            return None;
+        }
+        let text = name.sym.as_str();
+        if text == "undefined" {
+            return Some(Constant::Undefined);
+        }
+        if text == "NaN" {
+            return Some(Constant::NaN);
+        }
+        None
     }
 }

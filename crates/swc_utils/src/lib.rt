@@ -5,9 +5,11 @@ mod answers;
 mod context;
 mod ext;
 mod globals;
+mod literals;
 mod operators;
 mod purity;
 
 pub use answers::{Purity, Value, ValueType};
 pub use context::ExprCtx;
 pub use ext::ExprExt;
+pub use literals::is_literal;

@@ -23,6 +23,17 @@ fn has_no_params(params: &[Pat]) -> bool
     }
 }
 
+/// Whether there are no expressions.
+#[tactic(auto, using(crate::proofs::PureNodes::some_trees))]
+pub(crate) fn has_no_exprs(es: &[Expr]) -> bool
+    ensures { result ≡ no_trees (list_trees expr_tree es.now) }
+{
+    match es {
+        [] => true,
+        [_, ..] => false,
+    }
+}
+
 #[tactic(auto, using(crate::proofs::PureNodes::some_trees))]
 fn has_no_stmts(stmts: &[Stmt]) -> bool
     ensures { result ≡ no_trees (list_trees stmt_tree stmts.now) }
