@@ -8,3 +8,5 @@ pub mod Bodies
 pub mod Items
 pub mod GlobalNodes
 pub mod LiteralNodes
+pub mod Digits
+pub mod Trimmed

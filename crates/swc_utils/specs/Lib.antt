@@ -6,3 +6,4 @@ pub mod Literals
 pub mod Holds
 pub mod Sound
 pub mod Effects
+pub mod Digits

@@ -6,6 +6,7 @@ mod context;
 mod ext;
 mod globals;
 mod literals;
+mod number_text;
 mod operators;
 mod purity;
 
