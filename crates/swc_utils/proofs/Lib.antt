@@ -10,3 +10,5 @@ pub mod GlobalNodes
 pub mod LiteralNodes
 pub mod Digits
 pub mod Trimmed
+pub mod KnownNodes
+pub mod Lasts

@@ -4,6 +4,7 @@ use Rattle.swc_ast.specs.declared.UnaryOp.{UnaryOp}
 use Rattle.swc_ast.specs.declared.UnaryOp.TheVariants.{Minus, Bang, Void}
 use Rattle.swc_ast.specs.declared.BinaryOp.{BinaryOp}
 use Rattle.swc_ast.specs.declared.BinaryOp.TheVariants.{LogicalOr, LogicalAnd}
+use Rattle.swc_ast.specs.declared.AssignOp.{AssignOp}
 use Rattle.swc_ast.specs.declared.AssignOp.TheVariants.{Assign as PlainAssign}
 use Rattle.swc_ast.specs.declared.literals.Lit.{Lit}
 use Rattle.swc_ast.specs.declared.literals.Lit.TheVariants as lit
@@ -93,6 +94,11 @@ abbrev pub binary_truth : BinaryOp → Option Bool → Option Bool → Option Bo
 binary_truth LogicalOr a b = or_truth a b
 binary_truth LogicalAnd a b = and_truth a b
 binary_truth _ a b = None
+
+-- the truth of an assignment's value, by that of its right side
+abbrev pub assign_truth : AssignOp → Option Bool → Option Bool
+assign_truth PlainAssign b = b
+assign_truth _ b = None
 
 -- whether a text is not empty
 abbrev pub is_filled : List ℕ → Bool

@@ -9,6 +9,7 @@ mod literals;
 mod number_text;
 mod operators;
 mod purity;
+mod values;
 
 pub use answers::{Purity, Value, ValueType};
 pub use context::ExprCtx;
