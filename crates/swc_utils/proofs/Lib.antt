@@ -1,7 +1,7 @@
 pub mod Ends
 pub mod Pure
 pub mod Known
-pub mod Types
+pub mod Typed
 pub mod Sound
 pub mod PureNodes
 pub mod Bodies
@@ -12,3 +12,5 @@ pub mod Digits
 pub mod Trimmed
 pub mod KnownNodes
 pub mod Lasts
+pub mod TypeNodes
+pub mod TextNodes

@@ -142,6 +142,10 @@ abbrev mutual
   number mark (node (Unary op) ss (a ⊳ ε)) = unary_number op (number mark a) (unary_known op (pure mark a) (truth mark a))
   number mark (node l ss ts) = of_value to_number (literal mark l)
 
+-- the truth, if the expression is pure
+abbrev pub pure_truth : ℕ → Tree → Option Bool
+pure_truth mark t = if pure mark t then truth mark t else None
+
 -- two known texts, one after the other
 abbrev pub joined_texts : Option (List ℕ) → Option (List ℕ) → Option (List ℕ)
 joined_texts (Some s) (Some t) = Some (s ++ t)

@@ -1,5 +1,5 @@
 -- What the answers on an expression say of its runs.
-use Rattle.std.specs.Prelude.{◌≡◌, ℕ, ℤ, Bool, List, Option, Some, None, string_bytes}
+use Rattle.std.specs.Prelude.{◌≡◌, ℕ, ℤ, Bool, true, false, List, Option, Some, None, string_bytes}
 use Rattle.std.specs.declared.alloc.Global.{Global}
 use Rattle.std.specs.declared.string.String.{String}
 use Rattle.swc_ast.specs.Tree.{Tree}
@@ -7,6 +7,8 @@ use Rattle.swc_ast.specs.Value.{Value, Context}
 use Rattle.swc_ast.specs.Operators.{Numeric, NotANumber, Whole}
 use Rattle.swc_ast.specs.Meaning.{eval}
 use Rattle.swc_ast.specs.Call.{call_at}
+use Rattle.swc_utils.specs.declared.answers.Purity.{Purity}
+use Rattle.swc_utils.specs.declared.answers.Purity.TheVariants.{MayBeImpure, Pure}
 use Rattle.swc_utils.specs.declared.answers.Value.{Value as Answer}
 use Rattle.swc_utils.specs.declared.answers.Value.TheVariants.{Known, Unknown}
 use Rattle.swc_utils.specs.Holds.{Yields, Still}
@@ -18,6 +20,11 @@ pub record Always (mark : ℕ) (t : Tree) (P : Value → Type 0) : Type 0 where
 -- no run of the expression changes a binding, makes an event, takes a reply or jumps
 pub record NoEffect (mark : ℕ) (t : Tree) : Type 0 where
   pub by : (n d : ℕ) → Still (eval mark n (call_at (eval mark n) d) t)
+
+-- whether an expression is pure, as an answer
+abbrev pub purity : Bool → Purity
+purity true = Pure
+purity false = MayBeImpure
 
 -- what an answer knows
 abbrev pub known : {A : Type 0} → Answer A → Option A

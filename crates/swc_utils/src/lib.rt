@@ -9,6 +9,8 @@ mod literals;
 mod number_text;
 mod operators;
 mod purity;
+mod texts;
+mod types;
 mod values;
 
 pub use answers::{Purity, Value, ValueType};

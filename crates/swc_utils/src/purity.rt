@@ -6,7 +6,9 @@ ghost use Rattle.swc_ast.specs.Expressions.{item_kind, item_trees, key_tree, par
 ghost use Rattle.swc_ast.specs.Views.{expr_tree, stmt_tree, prop_or_spread_tree, prop_tree, arrow_body_tree, function_trees};
 ghost use Rattle.swc_utils.specs.Globals.{unresolved};
 ghost use Rattle.swc_utils.specs.Pure.{pure, pure_all, has_spread, no_trees, is_empty_body, does_nothing, is_pure_callee as callee_is_pure};
+ghost use Rattle.swc_utils.specs.Sound.{purity};
 
+use crate::answers::Purity;
 use crate::context::ExprCtx;
 use crate::operators::{deletes, has_no_meaning};
 use swc_ast::{
@@ -178,5 +180,16 @@ fn is_key_pure(ctx: ExprCtx, key: &PropName) -> bool
     match key {
         PropName::Ident(_) | PropName::Str(_) | PropName::Num(_) => true,
         PropName::Computed(n) => is_pure(ctx, &n.expr),
+    }
+}
+
+/// Whether an expression is pure, as an answer.
+pub(crate) fn purity_of(ctx: ExprCtx, e: &Expr) -> Purity
+    ensures { result ≡ purity (pure (unresolved ctx) (expr_tree e.now)) }
+{
+    if is_pure(ctx, e) {
+        Purity::Pure
+    } else {
+        Purity::MayBeImpure
     }
 }

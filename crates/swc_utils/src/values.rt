@@ -313,3 +313,13 @@ fn number_of_negation(truth: Value<bool>) -> Value<Option<i64>>
         Value::Unknown => Value::Unknown,
     }
 }
+
+/// What is known of the truth of a pure expression's value.
+pub(crate) fn pure_truth_of(ctx: ExprCtx, e: &Expr) -> Value<bool>
+    ensures { known result ≡ trees.pure_truth (unresolved ctx) (expr_tree e.now) }
+{
+    if is_pure(ctx, e) {
+        return truth_of(ctx, e);
+    }
+    Value::Unknown
+}
