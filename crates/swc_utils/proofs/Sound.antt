@@ -62,6 +62,7 @@ constant_nan mark ss ts x h = let p = and_parts _ _ h in record { by = λ n d. l
     known_nan true false false hu ha hb = absurd (false≢true hb)
     known_nan true true b hu ha hb = absurd (false≢true (sym ha))
     known_nan false a b hu ha hb = absurd (false≢true hu)
+
     not_both : (t : List ℕ) → bytes_eq t (codes "NaN") ≡ true → bytes_eq t (codes "undefined") ≡ false
     not_both t h = ap (λ s. bytes_eq s (codes "undefined")) ((bytes_eq-Decides t (codes "NaN")).0 h)
 

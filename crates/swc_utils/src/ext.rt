@@ -16,11 +16,7 @@ ghost use Rattle.swc_ast.specs.declared.errors.PassError.TheVariants.{OutOfMemor
 
 use crate::answers::{Purity, Value, ValueType};
 use crate::context::ExprCtx;
-use crate::globals;
-use crate::purity;
-use crate::texts;
-use crate::types;
-use crate::values;
+use crate::{globals, purity, texts, types, values};
 use std::alloc::Global;
 use swc_ast::{Expr, PassError};
 

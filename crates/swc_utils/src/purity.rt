@@ -105,11 +105,10 @@ pub(crate) fn is_pure(ctx: ExprCtx, e: &Expr) -> bool
         Expr::Seq(n) => are_pure(ctx, &n.exprs),
         Expr::Tpl(n) => are_pure(ctx, &n.exprs),
         Expr::Cond(n) => is_pure(ctx, &n.test) && is_pure(ctx, &n.cons) && is_pure(ctx, &n.alt),
-        Expr::Bin(n) => {
-            !has_no_meaning(n.op) && is_pure(ctx, &n.left) && is_pure(ctx, &n.right)
-        }
+        Expr::Bin(n) => { !has_no_meaning(n.op) && is_pure(ctx, &n.left) && is_pure(ctx, &n.right) }
         Expr::Call(n) => is_pure_callee(&n.callee) && are_pure(ctx, &n.args),
-        Expr::Update(_) | Expr::Assign(_) | Expr::Member(_) | Expr::New(_) | Expr::Invalid(_) => false,
+        Expr::Update(_) | Expr::Assign(_) | Expr::Member(_) | Expr::New(_) | Expr::Invalid(_) =>
+            false,
     }
 }
 

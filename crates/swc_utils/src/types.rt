@@ -69,7 +69,6 @@ fn type_of_name(ctx: ExprCtx, n: &Ident) -> Value<ValueType>
     Value::Unknown
 }
 
-
 fn is_same(a: ValueType, b: ValueType) -> bool
     ensures { result ≡ trees.same_type a b }
 {
