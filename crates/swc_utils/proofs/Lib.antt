@@ -14,3 +14,6 @@ pub mod KnownNodes
 pub mod Lasts
 pub mod TypeNodes
 pub mod TextNodes
+pub mod Refines
+pub mod Effects
+pub mod Preserved
