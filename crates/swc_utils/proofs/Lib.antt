@@ -15,5 +15,8 @@ pub mod Lasts
 pub mod TypeNodes
 pub mod TextNodes
 pub mod Refines
-pub mod Effects
+pub mod RunEffects
 pub mod Preserved
+pub mod Chains
+pub mod EffectNodes
+pub mod Pushes

@@ -8,7 +8,7 @@ use Rattle.swc_ast.specs.Call.{call_at}
 use Rattle.swc_meaning.specs.Exact.{Refines}
 use Rattle.swc_utils.specs.Effects.{effects_all, preserve, Preserves}
 use Rattle.swc_utils.proofs.Refines.{refines_same, refines_then, refines_trans, refines_assoc}
-use Rattle.swc_utils.proofs.Effects.{evals_joined, all_kept}
+use Rattle.swc_utils.proofs.RunEffects.{evals_joined, all_kept}
 
 turn_cons : (m k : Meaning) (ms : List Meaning) (c : Context) → in_turn (m ∷ (ms ++ k ∷ [])) c ≡ (m c >>= λ v. in_turn (ms ++ k ∷ []) c)
 unfolding in_turn

@@ -1,11 +1,11 @@
 -- The parts of an expression that a run of it may be noticed by, in order.
-use Rattle.std.specs.Prelude.{ℕ, Bool, true, false, ◌||◌, if◌then◌else◌, List}
+use Rattle.std.specs.Prelude.{ℕ, Bool, true, false, ◌&&◌, ◌||◌, if◌then◌else◌, List}
 use Rattle.swc_ast.specs.declared.UnaryOp.{UnaryOp}
-use Rattle.swc_ast.specs.declared.UnaryOp.TheVariants.{Delete}
+use Rattle.swc_ast.specs.declared.UnaryOp.TheVariants.{TypeOf, Delete}
 use Rattle.swc_ast.specs.declared.BinaryOp.{BinaryOp}
 use Rattle.swc_ast.specs.declared.BinaryOp.TheVariants.{LogicalOr, LogicalAnd, In, InstanceOf, NullishCoalescing}
 use Rattle.swc_ast.specs.declared.Span.{Span}
-use Rattle.swc_ast.specs.Tree.{Label, Read, Template, Array, Object, SpreadRecord, KeyValue, Shorthand, Method, ComputedKey, Unary, Binary, Seq, Tree, node, Forest, ε, ◌⊳◌}
+use Rattle.swc_ast.specs.Tree.{Read, Template, Array, Object, SpreadRecord, KeyValue, Shorthand, Method, ComputedKey, Unary, Binary, Seq, Tree, node, Forest, ε, ◌⊳◌}
 use Rattle.swc_ast.specs.Value.{Context}
 use Rattle.swc_ast.specs.Scope.{joined}
 use Rattle.swc_ast.specs.Meaning.{◌>>=◌, run_all, eval, evals}
@@ -35,14 +35,28 @@ is_strict InstanceOf = false
 is_strict _ = true
 
 -- a spread in an object
-abbrev pub is_record_spread : Label → Bool
-is_record_spread SpreadRecord = true
+abbrev pub is_record_spread : Tree → Bool
+is_record_spread (node SpreadRecord ss cs) = true
 is_record_spread _ = false
 
 -- whether a property of an object is a spread
 abbrev pub has_record_spread : Forest → Bool
 has_record_spread ε = false
-has_record_spread (node l ss cs ⊳ ts) = is_record_spread l || has_record_spread ts
+has_record_spread (t ⊳ ts) = is_record_spread t || has_record_spread ts
+
+-- `typeof`
+abbrev pub is_typeof : UnaryOp → Bool
+is_typeof TypeOf = true
+is_typeof _ = false
+
+-- a name
+abbrev pub is_read : Tree → Bool
+is_read (node (Read x) ss cs) = true
+is_read _ = false
+
+-- whether an operator and its operand are one effect: `delete`, and `typeof` of a name
+abbrev pub keeps_whole : UnaryOp → Tree → Bool
+keeps_whole op t = deletes op || (is_typeof op && is_read t)
 
 -- an expression, unless it is pure
 abbrev pub unless_pure : ℕ → Tree → Forest

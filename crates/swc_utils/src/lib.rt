@@ -3,6 +3,7 @@
 
 mod answers;
 mod context;
+mod effects;
 mod ext;
 mod globals;
 mod literals;
@@ -15,5 +16,6 @@ mod values;
 
 pub use answers::{Purity, Value, ValueType};
 pub use context::ExprCtx;
+pub use effects::preserve_effects;
 pub use ext::ExprExt;
 pub use literals::is_literal;
