@@ -1,5 +1,5 @@
 -- Properties of two variants have different trees.
-use Rattle.std.proofs.Common.{◌≡◌, refl, sym, ap, ◌∙◌, Bool, true, false, ◌==◌, subst}
+use Rattle.std.proofs.Common.{◌≡◌, refl, sym, ap, ◌∙◌, Bool, false, ◌==◌, subst}
 use Rattle.std.specs.Prelude.{ℕ}
 use Rattle.swc_ast.specs.Tree as tree
 use Rattle.swc_ast.specs.Tree.{Label, Tree}
@@ -7,7 +7,7 @@ use Rattle.swc_ast.specs.Same.{same}
 use Rattle.swc_ast.specs.Views.{prop_tree, prop_or_spread_tree}
 use Rattle.swc_ast.proofs.Labels.{label, differ}
 use Rattle.swc_ast.proofs.Equations.{prop_tree-Shorthand, prop_tree-KeyValue, prop_tree-Method, method_tree-is, prop_or_spread_tree-Spread, prop_or_spread_tree-Prop}
-use Rattle.swc_ast.specs.declared.declarations.Decl.TheViews.{roll-Prop, out-Prop, roll-out-Prop, roll-PropOrSpread, out-PropOrSpread, roll-out-PropOrSpread}
+use Rattle.swc_ast.specs.declared.declarations.Decl.TheViews.{roll-Prop, out-Prop, roll-out-Prop, roll-PropOrSpread}
 use Rattle.swc_ast.specs.declared.expressions.Prop.TheVariants as in_prop
 use Rattle.swc_ast.specs.declared.expressions.PropOrSpread.TheVariants as in_prop_or_spread
 use Rattle.swc_ast.specs.declared.declarations.Decl.TheOpen as Open

@@ -1,34 +1,26 @@
 -- What the comparison of parts says of the nodes that hold each other.
-use Rattle.std.proofs.Common.{◌≡◌, refl, sym, ap, ◌∙◌, Bool, true, false, ◌&&◌, ◌==◌, List, [], ◌∷◌, map, subst}
-use Rattle.std.specs.Prelude.{ℕ, Option, Some, None, if◌then◌else◌}
+use Rattle.std.proofs.Common.{◌≡◌, refl, sym, ap, ◌∙◌, Bool, true, false, ◌&&◌, List, [], ◌∷◌, map}
+use Rattle.std.specs.Prelude.{Option, Some, None}
 use Rattle.std.specs.Bool.{beq}
 use Rattle.std.specs.Cmp.Lexicographic.{pointwise}
 use Rattle.std.specs.declared.alloc.Global.{Global}
 use Rattle.std.specs.declared.boxed.Box.{Box}
 use Rattle.swc_ast.specs.Tree as tree
 use Rattle.swc_ast.specs.Tree.{Label, Name, Text, same_name, Tree, node, Forest, ε, ◌⊳◌}
-use Rattle.swc_ast.specs.Parts.{absent, then_all, list_trees, optional_trees, tree_or_absent, ident_name, ident_tree, option_ident_name, option_ident_spans}
-use Rattle.swc_ast.specs.Expressions.{FunctionTrees, function_node, key_tree, call_node, is_eval, member_node}
-use Rattle.swc_ast.specs.Statements.{LoopTrees, CaseTrees, while_node, do_while_node, option_init_tree, is_default_case, case_children, is_missing, var_tree}
+use Rattle.swc_ast.specs.Parts.{absent, list_trees, optional_trees, tree_or_absent, ident_name, ident_tree, option_ident_name, option_ident_spans}
+use Rattle.swc_ast.specs.Expressions.{FunctionTrees, function_node, key_tree}
+use Rattle.swc_ast.specs.Statements.{LoopTrees, while_node, do_while_node, option_init_tree, is_default_case, case_children, is_missing, var_tree}
 use Rattle.swc_ast.specs.Nodes.{case_tree, option_init_node}
 use Rattle.swc_ast.specs.Same.{same, same_forest, same_label, same_option, same_spans}
-use Rattle.swc_ast.specs.SameLaws.{impossible}
 use Rattle.swc_ast.specs.Views.{expr_tree, case_trees}
-use Rattle.swc_ast.proofs.ApartExpressions.{ExprForm, expr_form, expr_at, no_expr, no_expr-2}
-use Rattle.swc_ast.proofs.Equations.{expr_tree-Member, expr_tree-Ident}
+use Rattle.swc_ast.proofs.ApartExpressions.{no_expr, no_expr-2}
 use Rattle.swc_ast.proofs.Joined.{ends}
-use Rattle.swc_ast.proofs.Labels.{label, differ}
-use Rattle.swc_ast.proofs.SameParts.{first_span, two-at}
+use Rattle.swc_ast.proofs.SameParts.{first_span}
 use Rattle.swc_ast.proofs.Truths.{never-then}
 use Rattle.swc_ast.specs.declared.Span.{Span}
 use Rattle.swc_ast.specs.declared.names.Ident.{Ident}
-use Rattle.swc_ast.specs.declared.declarations.Decl.TheOpen as Open
-use Rattle.swc_ast.specs.declared.declarations.Decl.TheViews.{roll-Expr, out-Expr, roll-out-Expr}
 use Rattle.swc_ast.specs.declared.expressions.Expr.{Expr}
-use Rattle.swc_ast.specs.declared.expressions.Expr.TheVariants as in_expr
 use Rattle.swc_ast.specs.declared.expressions.PropName.{PropName}
-use Rattle.swc_ast.specs.declared.expressions.MemberProp.{MemberProp}
-use Rattle.swc_ast.specs.declared.expressions.MemberProp.TheVariants as prop
 use Rattle.swc_ast.specs.declared.statements.SwitchCase.{SwitchCase}
 use Rattle.swc_ast.specs.declared.statements.VarDeclOrExpr.{VarDeclOrExpr}
 use Rattle.swc_ast.specs.declared.statements.VarDeclOrExpr.TheVariants as init

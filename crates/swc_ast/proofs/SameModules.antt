@@ -1,12 +1,12 @@
 -- What the comparison of parts says of imports, exports and items.
-use Rattle.std.proofs.Common.{◌≡◌, refl, sym, ap, ◌∙◌, Bool, true, false, ◌&&◌, ◌==◌, List, [], ◌∷◌, subst}
+use Rattle.std.proofs.Common.{◌≡◌, refl, sym, ap, ◌∙◌, Bool, true, false, ◌&&◌, ◌==◌, [], ◌∷◌}
 use Rattle.swc_ast.specs.Tree as tree
 use Rattle.swc_ast.specs.Tree.{Label, Name}
 use Rattle.swc_ast.specs.Expressions.{FunctionTrees, function_node}
 use Rattle.swc_ast.specs.Parts.{option_ident_name, option_ident_spans}
-use Rattle.std.specs.Prelude.{Option, Some, None}
+use Rattle.std.specs.Prelude.{Option}
 use Rattle.swc_ast.specs.Tree.{Tree, node, Forest, ε, ◌⊳◌, same_name}
-use Rattle.swc_ast.specs.Modules.{import_specifier_tree, module_decl_tree, item_tree}
+use Rattle.swc_ast.specs.Modules.{import_specifier_tree, module_decl_tree}
 use Rattle.swc_ast.specs.Same.{same, same_label, same_option, same_spans, same_forest}
 use Rattle.swc_ast.specs.Views.{stmt_tree}
 use Rattle.swc_ast.proofs.ApartStatements.{StmtForm, stmt_form, stmt_at, stmt_number}
@@ -15,7 +15,7 @@ use Rattle.swc_ast.proofs.SameParts.{first_span}
 use Rattle.swc_ast.specs.declared.Span.{Span}
 use Rattle.swc_ast.specs.declared.names.Ident.{Ident}
 use Rattle.swc_ast.specs.declared.declarations.Decl.TheOpen as Open
-use Rattle.swc_ast.specs.declared.declarations.Decl.TheViews.{roll-Stmt, out-Stmt, roll-out-Stmt}
+use Rattle.swc_ast.specs.declared.declarations.Decl.TheViews.{out-Stmt, roll-out-Stmt}
 use Rattle.swc_ast.specs.declared.statements.Stmt.{Stmt}
 use Rattle.swc_ast.specs.declared.modules.ImportSpecifier.{ImportSpecifier}
 use Rattle.swc_ast.specs.declared.modules.ImportSpecifier.TheVariants as imports

@@ -2,19 +2,17 @@
 use Rattle.std.proofs.Common.{◌≡◌, refl, sym, ap, ◌∙◌, Bool, true, false, ◌&&◌, ◌||◌, List, [], ◌∷◌, map, length, ◌<◌, ◌≤◌, ◌+◌, drop, get_or, subst}
 use Rattle.std.proofs.lemmas.List.{drop_more, drop_all}
 use Rattle.std.specs.Prelude.{ℕ, not, Option, Some, None, bytes_eq}
-use Rattle.std.specs.declared.alloc.Global.{Global}
-use Rattle.std.specs.declared.boxed.Box.{Box}
 use Rattle.std.specs.Cmp.Lexicographic.{pointwise}
 use Rattle.swc_ast.specs.Tree as tree
 use Rattle.swc_ast.specs.Tree.{Name, same_name, Tree, node, Forest, ε, ◌⊳◌}
 use Rattle.swc_ast.specs.Parts.{leaf, absent, list_trees, optional_trees, lit_tree, ident_name, ident_tree, word_text, option_ident_name, option_ident_spans}
 use Rattle.swc_ast.specs.declared.UnaryOp.{UnaryOp}
 use Rattle.swc_ast.specs.declared.UnaryOp.TheVariants as op
-use Rattle.swc_ast.specs.Expressions.{unary_node, element_node, target_tree, member_tree, member_node, member_update, member_assign, param_tree, assign_node, update_node, key_tree, spread_kind, with_span, item_kind, item_spans, item_trees, element_tree, quasi_text, quasi_span}
+use Rattle.swc_ast.specs.Expressions.{unary_node, element_node, target_tree, member_node, member_update, member_assign, assign_node, update_node, key_tree, spread_kind, with_span, item_kind, item_spans, item_trees, element_tree, quasi_text, quasi_span}
 use Rattle.swc_ast.specs.Statements.{declarator_tree, block_tree, option_block_tree, handler_param, handler_spans, handler_tree}
 use Rattle.swc_ast.specs.Nodes.{key_of_member, init_node, option_handler_node}
 use Rattle.swc_ast.proofs.Joined.{joined-2, joined-3}
-use Rattle.swc_ast.proofs.Truths.{typeof-name, spans-both, never-then, never, never-here, member-dot, member-index, assign-name, assign-dot, assign-index, update-name, update-dot, update-index, try-plain, try-handler, array-parts, item-plain, item-spread, quasi-more, tpl-parts}
+use Rattle.swc_ast.proofs.Truths.{typeof-name, spans-both, never-then, never, member-dot, member-index, assign-name, assign-dot, assign-index, update-name, update-dot, update-index, try-plain, try-handler, array-parts, item-plain, item-spread, quasi-more, tpl-parts}
 use Rattle.swc_ast.specs.Same.{same, same_forest, same_label, same_spans, same_span, same_assign, same_update, same_unary, same_kind, same_item, same_quasi, same_option}
 use Rattle.std.specs.Bool.{beq}
 use Rattle.swc_ast.specs.SameLaws.{impossible}
@@ -39,7 +37,6 @@ use Rattle.swc_ast.specs.declared.statements.VarDeclOrExpr.{VarDeclOrExpr}
 use Rattle.swc_ast.specs.declared.statements.VarDeclOrExpr.TheVariants as init
 use Rattle.swc_ast.specs.declared.expressions.MemberProp.{MemberProp}
 use Rattle.swc_ast.specs.declared.expressions.MemberProp.TheVariants as prop
-use Rattle.swc_ast.specs.declared.expressions.MemberExpr.{MemberExpr}
 
 -- a function of two values that are known
 pub two-at : {A B C : Type 0} (F : A → B → C) {a x : A} {b y : B} → a ≡ x → b ≡ y → F x y ≡ F a b

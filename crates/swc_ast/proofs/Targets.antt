@@ -1,5 +1,5 @@
 -- What may stand on the left of an assignment, by its variant.
-use Rattle.std.proofs.Common.{◌≡◌, refl, sym, ap, ◌∙◌, Bool, true, false, ◌==◌}
+use Rattle.std.proofs.Common.{◌≡◌, refl, sym, ap, ◌∙◌, true, false, ◌==◌}
 use Rattle.swc_ast.specs.Tree as tree
 use Rattle.swc_ast.specs.Tree.{Tree, node}
 use Rattle.swc_ast.specs.Expressions.{is_target, member_tree, member_node}

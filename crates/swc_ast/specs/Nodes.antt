@@ -1,5 +1,5 @@
 -- The trees of parts that other nodes take up: what a comparison of them by themselves goes by.
-use Rattle.std.specs.Prelude.{Bool, List, [], ◌∷◌, Option, Some, None}
+use Rattle.std.specs.Prelude.{[], ◌∷◌, Option, Some, None}
 use Rattle.swc_ast.specs.Tree as tree
 use Rattle.swc_ast.specs.Tree.{Tree, node, ε, ◌⊳◌}
 use Rattle.swc_ast.specs.Parts.{leaf, absent, word_text, option_ident_name, option_ident_spans}

@@ -1,6 +1,6 @@
 -- Runs that the definitions compute: for each program, written above it, what is seen of it where the host gives these replies
 -- in turn. A host's object is a token: its number, and whether it is a function.
-use Rattle.std.specs.Prelude.{ℕ, zero, pos, negsuc, ◌≡◌, refl, true, false, List, [], ◌∷◌, Option, Some, None, codes}
+use Rattle.std.specs.Prelude.{ℕ, zero, pos, negsuc, ◌≡◌, refl, true, false, List, [], ◌∷◌, Some, None, codes}
 use Rattle.swc_ast.specs.declared.UnaryOp.TheVariants.{Minus, Tilde}
 use Rattle.swc_ast.specs.declared.UpdateOp.TheVariants.{PlusPlus}
 use Rattle.swc_ast.specs.declared.BinaryOp.{BinaryOp}

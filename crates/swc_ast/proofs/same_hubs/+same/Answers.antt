@@ -1,13 +1,11 @@
-use Rattle.std.proofs.Common.{refl, sym, ap, ◌∙◌, ◌≡◌, [], ◌∷◌}
-use Rattle.std.specs.Prelude.{Some, None}
+use Rattle.std.proofs.Common.{refl, sym, ◌∙◌, [], ◌∷◌}
+use Rattle.std.specs.Prelude.{None}
 use Rattle.swc_ast.specs.Tree as tree
 use Rattle.swc_ast.specs.Tree.{node, ε, ◌⊳◌}
-use Rattle.swc_ast.specs.Parts.{list_trees, ident_name, option_ident_name, option_ident_spans}
+use Rattle.swc_ast.specs.Parts.{list_trees, ident_name}
 use Rattle.swc_ast.specs.Expressions.{function_node, body_tree}
 use Rattle.swc_ast.specs.Statements.{while_node}
-use Rattle.swc_ast.specs.Nodes.{function_tree, case_tree}
 use Rattle.swc_ast.specs.Same.{same, same_label}
-use Rattle.swc_ast.specs.SameLaws.{same-bare, bare-same}
 use Rattle.swc_ast.specs.Views.{expr_tree, stmt_tree, function_trees, loop_trees}
 use Rattle.swc_ast.proofs.ApartExpressions.{no_expr, no_expr-2, other_expr-This, other_expr-Array, other_expr-Object, other_expr-Fn, other_expr-Unary, other_expr-Update, other_expr-Bin, other_expr-Assign, other_expr-Member, other_expr-Cond, other_expr-Call, other_expr-New, other_expr-Seq, other_expr-Ident, other_expr-Lit, other_expr-Tpl, other_expr-Arrow, other_expr-Invalid}
 use Rattle.swc_ast.proofs.ApartProps.{prop_or_spread_apart, other_prop-Shorthand, other_prop-KeyValue, other_prop-Method}

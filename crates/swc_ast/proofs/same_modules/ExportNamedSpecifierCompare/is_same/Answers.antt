@@ -1,4 +1,4 @@
-use Rattle.std.proofs.Common.{◌∙◌, ◌∷◌, ◌++◌, []}
+use Rattle.std.proofs.Common.{◌∙◌, ◌∷◌}
 use Rattle.swc_ast.specs.Same.{same, same_label}
 use Rattle.swc_ast.specs.Tree as tree
 use Rattle.swc_ast.specs.Tree.{node, ε}
