@@ -1,5 +1,5 @@
 -- A pass that turns one module into another and leaves all others.
-use Rattle.std.specs.Prelude.{ℕ, Bool, true, false, ◌≡◌, ◌⊎◌, [], ◌∷◌, Option, None, if◌then◌else◌}
+use Rattle.std.specs.Prelude.{Bool, true, ◌≡◌, ◌⊎◌, [], ◌∷◌, None, if◌then◌else◌}
 use Rattle.swc_ast.specs.declared.Span.{Span}
 use Rattle.swc_ast.specs.Tree.{Tree, node, ε, ◌⊳◌, Module, Break, Empty}
 use Rattle.swc_pass.specs.Pass.{PassSpec, SameBare}

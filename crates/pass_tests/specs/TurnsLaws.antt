@@ -9,7 +9,7 @@ use Rattle.swc_ast.specs.Weight.{weight, own_weight}
 use Rattle.swc_ast.specs.Run.{Same}
 use Rattle.swc_meaning.proofs.Observations.{same_itself}
 use Rattle.swc_static.proofs.Bare.{weight_bare}
-use Rattle.swc_pass.specs.Pass.{PassSpec, IsFor, IsLawful, SameBare, TellsChange}
+use Rattle.swc_pass.specs.Pass.{IsLawful, SameBare, TellsChange}
 use Rattle.pass_tests.specs.Turns.{long_tree, short_tree, turned_from, turned_to, Turned, turns, leaves}
 
 mutual
