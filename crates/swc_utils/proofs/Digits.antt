@@ -1,5 +1,5 @@
 -- Numbers that digits spell, where they stay within the core.
-use Rattle.std.proofs.Common.{◌≡◌, ℕ, suc, ◌+◌, ◌-◌, ◌*◌, ◌<◌, ◌≤◌, pos, negsuc, nat_le, nat_abs, Bool, true, false, if◌then◌else◌, List, [], ◌∷◌, length, drop, get_or, Option, Some, None, refl, sym, ap, ◌∙◌, arith}
+use Rattle.std.proofs.Common.{◌≡◌, ℕ, suc, ◌+◌, ◌-◌, ◌*◌, ◌<◌, Bool, true, false, if◌then◌else◌, List, [], ◌∷◌, length, drop, get_or, Option, Some, None, refl, sym, ap, ◌∙◌, arith}
 use Rattle.swc_ast.specs.Operators.{greatest, is_digit, digits_value, if_some, of_digits, Numeric}
 use Rattle.swc_utils.specs.Digits.{capped, digits_spelled}
 use Rattle.std.proofs.Math.Seq.{drop-cons}

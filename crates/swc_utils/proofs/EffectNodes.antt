@@ -1,5 +1,5 @@
 -- Effects of nodes whose label is told by their parts.
-use Rattle.std.proofs.Common.{◌≡◌, ℕ, Bool, true, false, ◌&&◌, ◌||◌, if◌then◌else◌, List, refl, ◌∙◌}
+use Rattle.std.proofs.Common.{◌≡◌, ℕ, Bool, true, false, if◌then◌else◌, List, refl}
 use Rattle.swc_ast.specs.Tree as tree
 use Rattle.swc_ast.specs.Tree.{Name, Tree, node, Forest, ε, ◌⊳◌}
 use Rattle.swc_ast.specs.Parts.{lit_tree}
@@ -18,13 +18,7 @@ use Rattle.swc_ast.specs.declared.expressions.AssignTarget.TheVariants as target
 use Rattle.swc_ast.specs.declared.expressions.MemberExpr.{MemberExpr}
 use Rattle.swc_ast.specs.declared.expressions.MemberProp.{MemberProp}
 use Rattle.swc_ast.specs.declared.expressions.MemberProp.TheVariants as prop
-use Rattle.swc_ast.specs.Scope.{joined}
-use Rattle.swc_ast.specs.Expressions.{shorthand_tree, key_value_tree, key_tree}
-use Rattle.swc_ast.specs.declared.names.Ident.{Ident}
-use Rattle.swc_ast.specs.declared.expressions.MethodProp.{MethodProp}
-use Rattle.swc_ast.specs.declared.expressions.KeyValueProp.{KeyValueProp}
-use Rattle.swc_ast.specs.Views.{method_tree}
-use Rattle.swc_utils.specs.Effects.{is_read, keeps_whole, is_record_spread, unless_pure, effects, effects_all}
+use Rattle.swc_utils.specs.Effects.{is_read, keeps_whole, unless_pure, effects}
 use Rattle.swc_utils.proofs.Chains.{joined_none}
 
 pub read-unary : (op : UnaryOp) (s : Span) (t : Tree) → is_read (unary_node op s t) ≡ false

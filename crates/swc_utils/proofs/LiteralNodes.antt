@@ -1,5 +1,5 @@
 -- Which nodes are literals, where their label is told by their parts.
-use Rattle.std.proofs.Common.{◌≡◌, ℕ, suc, ◌<◌, Bool, true, false, ◌&&◌, if◌then◌else◌, List, map, drop, length, Option, Some, refl, sym, ap, ◌∙◌, get_or}
+use Rattle.std.proofs.Common.{◌≡◌, ℕ, ◌<◌, Bool, true, false, ◌&&◌, if◌then◌else◌, List, map, drop, length, Option, Some, refl, sym, ap, ◌∙◌, get_or}
 use Rattle.swc_ast.specs.Tree as tree
 use Rattle.swc_ast.specs.Tree.{Name, Tree, node, Forest, ε, ◌⊳◌}
 use Rattle.swc_ast.specs.Parts.{lit_tree}
@@ -18,7 +18,7 @@ use Rattle.swc_ast.specs.declared.expressions.AssignTarget.TheVariants as target
 use Rattle.swc_ast.specs.declared.expressions.MemberExpr.{MemberExpr}
 use Rattle.swc_ast.specs.declared.expressions.MemberProp.{MemberProp}
 use Rattle.swc_ast.specs.declared.expressions.MemberProp.TheVariants as prop
-use Rattle.swc_ast.specs.Expressions.{item_kind, item_trees, key_tree, key_value_tree}
+use Rattle.swc_ast.specs.Expressions.{item_kind, item_trees, key_value_tree}
 use Rattle.swc_ast.specs.declared.expressions.ExprOrSpread.{ExprOrSpread}
 use Rattle.swc_ast.specs.declared.expressions.KeyValueProp.{KeyValueProp}
 use Rattle.swc_ast.specs.declared.expressions.PropName.{PropName}

@@ -2,8 +2,8 @@
 use Rattle.std.proofs.Common.{◌≡◌, ℕ, List, [], ◌∷◌, ◌++◌, refl, sym, subst}
 use Rattle.swc_ast.specs.declared.Span.{Span}
 use Rattle.swc_ast.specs.Tree.{Tree, Forest, ε, ◌⊳◌}
-use Rattle.swc_ast.specs.Value.{Run, and_then, Context, Meaning}
-use Rattle.swc_ast.specs.Meaning.{◌>>=◌, gives, Caller, in_turn, run_all, act, eval, evals}
+use Rattle.swc_ast.specs.Value.{and_then, Context, Meaning}
+use Rattle.swc_ast.specs.Meaning.{◌>>=◌, Caller, in_turn, run_all, act, eval, evals}
 use Rattle.swc_ast.specs.Call.{call_at}
 use Rattle.swc_meaning.specs.Exact.{Refines}
 use Rattle.swc_utils.specs.Effects.{effects_all, preserve, Preserves}

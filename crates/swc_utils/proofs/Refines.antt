@@ -1,7 +1,7 @@
 -- Laws of refinement.
-use Rattle.std.proofs.Common.{◌≡◌, refl, sym, ap, subst}
+use Rattle.std.proofs.Common.{refl, sym, ap, subst}
 use Rattle.swc_ast.specs.Value.{State, Outcome, Done, Jumps, Outside, Cut, Run, and_then}
-use Rattle.swc_ast.specs.Meaning.{◌>>=◌, gives, leaves}
+use Rattle.swc_ast.specs.Meaning.{◌>>=◌, leaves}
 use Rattle.swc_meaning.specs.Exact.{Refined, Refines}
 use Rattle.swc_utils.specs.Holds.{Quiet, Keeps}
 

@@ -1,8 +1,8 @@
 -- Expressions whose runs change nothing, ask nothing and throw nothing.
-use Rattle.std.specs.Prelude.{ℕ, Bool, true, false, not, ◌&&◌, ◌||◌, List, [], ◌∷◌, Option, None}
+use Rattle.std.specs.Prelude.{ℕ, Bool, true, false, not, ◌&&◌, ◌||◌, List, [], ◌∷◌, None}
 use Rattle.swc_ast.specs.declared.UnaryOp.TheVariants.{Delete}
 use Rattle.swc_ast.specs.declared.BinaryOp.TheVariants.{In, InstanceOf}
-use Rattle.swc_ast.specs.Tree.{Name, ItemKind, Spread, Label, NumLit, StrLit, BoolLit, NullLit, This, Read, Template, Array, Object, KeyValue, Shorthand, Method, PlainKey, ComputedKey, Fn, Arrow, Params, Body, Unary, TypeOfName, Binary, Cond, Seq, Call, Tree, node, Forest, ε, ◌⊳◌}
+use Rattle.swc_ast.specs.Tree.{ItemKind, Spread, Label, NumLit, StrLit, BoolLit, NullLit, This, Read, Template, Array, Object, KeyValue, Shorthand, Method, PlainKey, ComputedKey, Fn, Arrow, Params, Body, Unary, TypeOfName, Binary, Cond, Seq, Call, Tree, node, Forest, ε, ◌⊳◌}
 use Rattle.swc_utils.specs.Globals.{is_host_name}
 
 -- whether there are no trees

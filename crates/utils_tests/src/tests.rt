@@ -1,11 +1,11 @@
 use crate::build::{
     array, assign, binary, call, empty_array, host, ident, idle_function, member, null, number,
-    text, truth, unary,
+    span, text, truth, unary,
 };
 use std::alloc::{AllocError, Global};
 use std::test::Fail;
-use swc_ast::{BinaryOp, Expr, Mark, SyntaxContext, UnaryOp};
-use swc_utils::{ExprCtx, ExprExt, Purity, Value, ValueType, is_literal};
+use swc_ast::{BinaryOp, Expr, Lit, Mark, SyntaxContext, UnaryOp};
+use swc_utils::{ExprCtx, ExprExt, Purity, Value, ValueType, is_literal, preserve_effects};
 
 fn context() -> Option<ExprCtx> {
     let mark = Mark::new(1)?;
@@ -177,5 +177,42 @@ fn tells_literals(rt: HostRuntime) -> Result<(), Fail> {
     assert!(rt; is_literal(&array(alloc, text(alloc, "a")?, false)?));
     assert!(rt; !is_literal(&array(alloc, text(alloc, "a")?, true)?));
     assert!(rt; !is_literal(&host(alloc, "undefined")?));
+    Ok(())
+}
+
+/// The number literal that an expression is.
+fn number_in(e: Option<&Expr>) -> Option<i64> {
+    match e {
+        Some(Expr::Lit(Lit::Num(n))) => Some(n.value),
+        _ => None,
+    }
+}
+
+#[test]
+fn keeps_effects(rt: HostRuntime) -> Result<(), Fail> {
+    let alloc = rt.alloc();
+    let ctx = context().expect(&rt, "a context");
+
+    // 3 behind f(), typeof x and 1 is (f(), typeof x, 3)
+    let mut parts = Vec::new(alloc);
+    parts.push(call(alloc, host(alloc, "f")?)?)?;
+    parts.push(unary(alloc, UnaryOp::TypeOf, host(alloc, "x")?)?)?;
+    parts.push(number(1))?;
+    let answer = preserve_effects(alloc, &ctx, span(), number(3), parts)?;
+    match &answer {
+        Expr::Seq(n) => {
+            assert_eq!(rt; n.exprs.len(), 3);
+            assert!(rt; matches!(n.exprs.first(), Some(Expr::Call(_))));
+            assert!(rt; matches!(n.exprs.get(1), Some(Expr::Unary(_))));
+            assert_eq!(rt; number_in(n.exprs.last()), Some(3));
+        }
+        _ => assert!(rt; false),
+    }
+
+    // and behind 1 alone it is 3
+    let mut parts = Vec::new(alloc);
+    parts.push(number(1))?;
+    let answer = preserve_effects(alloc, &ctx, span(), number(3), parts)?;
+    assert_eq!(rt; number_in(Some(&answer)), Some(3));
     Ok(())
 }

@@ -35,9 +35,9 @@ push_all-returns t c = ends expr_tree (unresolved c.args.ctx) c.args.es.now c.lo
 
 pub push_items-loop-item-preserved : goal.push_items-loop-item-preserved
 push_items-loop-item-preserved t c = elim c.match-item.branch [
-    push_items-in-Some+in_ok-all w ↦ item_goes_on (unresolved c.args.ctx) c.args.items.now c.loop-item.item-index _ w.in-Some.item _ _ c.loop-item-test.true c.item-item.is w.in-Some.is (ap vec_trees w.all-is ∙ w.in_ok-all.ensures ∙ ap (λ e. joined (vec_trees c.loop-item.all) (effects (unresolved c.args.ctx) (expr_tree e))) w.deref.ensures) c.loop-item.invariant
+  | push_items-in-Some+in_ok-all w ↦ item_goes_on (unresolved c.args.ctx) c.args.items.now c.loop-item.item-index _ w.in-Some.item _ _ c.loop-item-test.true c.item-item.is w.in-Some.is (ap vec_trees w.all-is ∙ w.in_ok-all.ensures ∙ ap (λ e. joined (vec_trees c.loop-item.all) (effects (unresolved c.args.ctx) (expr_tree e))) w.deref.ensures) c.loop-item.invariant
   | push_items-in_default w ↦ ap (λ v. joined (vec_trees v) (effects_all (unresolved c.args.ctx) (item_trees expr_tree (drop (c.loop-item.item-index + 1) c.args.items.now)))) w.all-is ∙ hole_goes_on (unresolved c.args.ctx) c.args.items.now c.loop-item.item-index _ (vec_trees c.loop-item.all) c.loop-item-test.true c.item-item.is w.in_default.is c.loop-item.invariant
-  ]
+]
 
 pub push_items-returns : goal.push_items-returns
 push_items-returns t c = items_end (unresolved c.args.ctx) c.args.items.now c.loop-item.item-index _ c.loop-item-test.false c.loop-item.invariant
