@@ -10,14 +10,35 @@ fn blanks_change_spans_alone(rt: HostRuntime) {
         ("f(1 + 2);", "f( 1+2 )"),
         ("a.b = [c, , ...d];", "a . b=[c,,...d];"),
         ("({a, b: 1, 'c'() {}, ...d});", "({ a,b:1,'c'(){},...d })"),
-        ("(function f(a, b = 1) { return a; });", "(function f(a,b=1) {return a});"),
+        (
+            "(function f(a, b = 1) { return a; });",
+            "(function f(a,b=1) {return a});",
+        ),
         ("((a) => a)((b) => {});", "((a)=>a)((b)=>{})"),
-        ("l: for (let i = 0; i < 2; i++) { continue l; }", "l:for(let i=0;i<2;i++){continue l}"),
-        ("switch (a) { case 1: b; default: break; }", "switch(a){case 1:b;default:break}"),
-        ("try { throw a; } catch (b) {} finally {}", "try{throw a}catch(b){}finally{}"),
-        ("if (a) b; else while (c) do d; while (e);", "if(a)b;else while(c)do d;while(e)"),
-        ("import a, {b as c} from 'm'; export {c as d};", "import a,{b as c}from'm';export{c as d}"),
-        ("export default function f() {}", "export default function f(){}"),
+        (
+            "l: for (let i = 0; i < 2; i++) { continue l; }",
+            "l:for(let i=0;i<2;i++){continue l}",
+        ),
+        (
+            "switch (a) { case 1: b; default: break; }",
+            "switch(a){case 1:b;default:break}",
+        ),
+        (
+            "try { throw a; } catch (b) {} finally {}",
+            "try{throw a}catch(b){}finally{}",
+        ),
+        (
+            "if (a) b; else while (c) do d; while (e);",
+            "if(a)b;else while(c)do d;while(e)",
+        ),
+        (
+            "import a, {b as c} from 'm'; export {c as d};",
+            "import a,{b as c}from'm';export{c as d}",
+        ),
+        (
+            "export default function f() {}",
+            "export default function f(){}",
+        ),
         ("export const a = `b${1}c`;", "export const a=`b${ 1 }c`"),
     ] {
         let module = read_module(alloc, text, mark).expect(&rt, "core text");
@@ -92,7 +113,10 @@ fn imports_and_exports_count(rt: HostRuntime) {
         ("export let a;", "let a;"),
         ("export default 1;", "export default 2;"),
         ("export default 1;", "1;"),
-        ("export default function f() {}", "export default function () {}"),
+        (
+            "export default function f() {}",
+            "export default function () {}",
+        ),
     ] {
         let module = read_module(alloc, text, mark).expect(&rt, "core text");
         let module_2 = read_module(alloc, other, mark).expect(&rt, "core text");
