@@ -99,7 +99,10 @@ fn add_names_of<'a>(names: &mut Vec<Name<'a>>, n: Node<'a>, part: Part) -> Resul
     }
 }
 
-fn add_optional<'a>(names: &mut Vec<Name<'a>>, name: Option<Name<'a>>) -> Result<(), AllocError>
+pub(crate) fn add_optional<'a>(
+    names: &mut Vec<Name<'a>>,
+    name: Option<Name<'a>>,
+) -> Result<(), AllocError>
     ensures { OnOk result (tree_names_of names.new.items ≡ tree_names_of names.old.items ++ optional name.entry) }
 {
     if let Some(x) = name {
@@ -270,7 +273,10 @@ pub(crate) fn add_own_names<'a>(
 }
 
 /// Adds what the first part of a `for` declares.
-pub(crate) fn add_head<'a>(names: &mut Vec<Name<'a>>, children: Children<'a>) -> Result<(), AllocError>
+pub(crate) fn add_head<'a>(
+    names: &mut Vec<Name<'a>>,
+    children: Children<'a>,
+) -> Result<(), AllocError>
     ensures { OnOk result (tree_names_of names.new.items ≡ tree_names_of names.old.items ++ first_names (head_names (first_tree (children_forest children.entry)))) }
 {
     match children.next() {
@@ -288,7 +294,8 @@ fn optional_name<'a>(name: &'a Option<Ident>) -> Option<Name<'a>>
     }
 }
 
-fn caught_name<'a>(handler: &'a Option<CatchClause>) -> Option<Name<'a>>
+/// The parameter of a handler.
+pub(crate) fn caught_name<'a>(handler: &'a Option<CatchClause>) -> Option<Name<'a>>
     ensures { optional result ≡ catch_name (handler_param handler.now) }
 {
     match handler {
