@@ -1,8 +1,10 @@
-//! Tests of the weight and the validity of trees and of whether they are resolved, on trees built by hand.
+//! Tests of the weight and the validity of trees and of whether they are resolved and core, on trees built by hand.
 #![tactic(auto)]
 
 #[cfg(test)]
 mod build;
+#[cfg(test)]
+mod cores;
 #[cfg(test)]
 mod resolution;
 #[cfg(test)]

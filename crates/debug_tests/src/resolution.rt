@@ -9,7 +9,7 @@ use swc_ast::{
 use swc_resolved::{is_resolved, is_script_resolved};
 
 /// A name under the mark of a number; 0 stands for the empty context.
-fn ident(alloc: Global, text: &str, mark: u32) -> Result<Ident, AllocError> {
+pub(crate) fn ident(alloc: Global, text: &str, mark: u32) -> Result<Ident, AllocError> {
     let sym = String::from_str(alloc, text)?;
     let ctxt = match Mark::new(mark) {
         Some(mark) => SyntaxContext::empty().apply_mark(mark),
@@ -29,14 +29,14 @@ fn word(alloc: Global, text: &str) -> Result<IdentName, AllocError> {
 }
 
 /// `let x;` or `var x;`
-fn declare(alloc: Global, kind: VarDeclKind, name: Ident) -> Result<Stmt, AllocError> {
+pub(crate) fn declare(alloc: Global, kind: VarDeclKind, name: Ident) -> Result<Stmt, AllocError> {
     let init = None;
     let span = span();
     let decls = one(alloc, VarDeclarator { span, name, init })?;
     Ok(Stmt::Decl(Decl::Var(VarDecl { span, kind, decls })))
 }
 
-fn block(stmts: Vec<Stmt>) -> Stmt {
+pub(crate) fn block(stmts: Vec<Stmt>) -> Stmt {
     let span = span();
     Stmt::Block(BlockStmt { span, stmts })
 }
@@ -55,7 +55,7 @@ fn break_to(alloc: Global, label: &str) -> Result<Stmt, AllocError> {
 }
 
 /// A function's declaration.
-fn function(
+pub(crate) fn function(
     alloc: Global,
     ident: Ident,
     params: Vec<Pat>,

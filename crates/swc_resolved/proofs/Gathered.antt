@@ -26,6 +26,10 @@ declared_joined (t ⊳ ts) us = ap (λ ps. declared_by t ++ ps) (declared_joined
 first_joined : (ts us : Forest) → first_names (declared (joined ts us)) ≡ first_names (declared ts) ++ first_names (declared us)
 first_joined ts us = ap first_names (declared_joined ts us) ∙ first_names_append (declared ts) (declared us)
 
+vars_joined : (ts us : Forest) → vars_all (joined ts us) ≡ vars_all ts ++ vars_all us
+vars_joined ε us = refl
+vars_joined (t ⊳ ts) us = ap (λ xs. vars t ++ xs) (vars_joined ts us) ∙ sym (append_assoc (vars t) (vars_all ts) (vars_all us))
+
 one_by_one : (p : Part) (t : Tree) (ts : Forest) → forest_names p (t ⊳ ts) ≡ tree_names p t ++ forest_names p ts
 one_by_one part.Vars t ts = refl
 one_by_one part.Declarations t ts = first_names_append (declared_by t) (declared ts)
@@ -34,6 +38,7 @@ one_by_one part.Params (node l ss cs) ts = refl
 one_by_one part.Imports (node l ss cs) ts = refl
 one_by_one part.Specifiers (node l ss cs) ts = refl
 one_by_one part.Cases (node l ss cs) ts = first_joined (body_statements l cs) (case_statements ts)
+one_by_one part.CaseVars (node l ss cs) ts = vars_joined (body_statements l cs) (case_statements ts)
 
 none_given : (p : Part) → forest_names p ε ≡ []
 none_given part.Vars = refl
@@ -43,6 +48,7 @@ none_given part.Params = refl
 none_given part.Imports = refl
 none_given part.Specifiers = refl
 none_given part.Cases = refl
+none_given part.CaseVars = refl
 
 pub goes_on : (p : Part) (t : Tree) (ts us : Forest) (xs new g : List Name) → us ≡ t ⊳ ts → new ≡ xs ++ tree_names p t → xs ++ forest_names p us ≡ g → new ++ forest_names p ts ≡ g
 goes_on p t ts us xs new g is grown h = ap (λ ys. ys ++ forest_names p ts) grown ∙ append_assoc xs (tree_names p t) (forest_names p ts) ∙ sym (ap (λ ys. xs ++ ys) (ap (forest_names p) is ∙ one_by_one p t ts)) ∙ h
@@ -207,6 +213,18 @@ case_below p t l cs whole labelled held is = sym (cases_as p t l cs whole labell
 
 pub no_case : (p : Part) (t : Tree) (l : Label) → p ≡ part.Cases → label_of t ≡ l → is_case_body l ≡ false → [] ≡ tree_names p t
 no_case p t l whole labelled is = sym (cases_as p t l (children_of t) whole labelled refl ∙ ap (λ ts. first_names (declared ts)) (no_case_label l (children_of t) is))
+
+own_case_vars : (t : Tree) → tree_names part.CaseVars t ≡ vars_all (body_statements (label_of t) (children_of t))
+own_case_vars (node l ss cs) = refl
+
+case_vars_as : (p : Part) (t : Tree) (l : Label) (cs : Forest) → p ≡ part.CaseVars → label_of t ≡ l → children_of t ≡ cs → tree_names p t ≡ vars_all (body_statements l cs)
+case_vars_as p t l cs whole labelled held = ap (λ q. tree_names q t) whole ∙ own_case_vars t ∙ cc (labelled, held)
+
+pub case_vars_below : (p : Part) (t : Tree) (l : Label) (cs : Forest) → p ≡ part.CaseVars → label_of t ≡ l → children_of t ≡ cs → is_case_body l ≡ true → forest_names part.Vars cs ≡ tree_names p t
+case_vars_below p t l cs whole labelled held is = sym (case_vars_as p t l cs whole labelled held ∙ ap vars_all (case_label l cs is))
+
+pub no_case_vars : (p : Part) (t : Tree) (l : Label) → p ≡ part.CaseVars → label_of t ≡ l → is_case_body l ≡ false → [] ≡ tree_names p t
+no_case_vars p t l whole labelled is = sym (case_vars_as p t l (children_of t) whole labelled refl ∙ ap vars_all (no_case_label l (children_of t) is))
 
 -- what several parts give
 

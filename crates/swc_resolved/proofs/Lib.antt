@@ -7,3 +7,5 @@ pub mod Binding
 pub mod Specifiers
 pub mod Beside
 pub mod Verdict
+pub mod Once
+pub mod Fits

@@ -12,14 +12,14 @@ use Rattle.swc_static.proofs.Names.{same_name_path}
 use Rattle.swc_resolved.specs.Names.{name, names}
 use Rattle.swc_resolved.specs.declared.names.Name.{Name}
 
-has_key : (x : tree.Name) (ks : List Name) → list_any (λ k. same_name x (name k)) ks ≡ has_name x (names ks)
+pub has_key : (x : tree.Name) (ks : List Name) → list_any (λ k. same_name x (name k)) ks ≡ has_name x (names ks)
 has_key x [] = refl
 has_key x (k ∷ ks) = ap (λ b. same_name x (name k) || b) (has_key x ks)
 
-pub contains_key : (free found : Bool) (x : tree.Name) (ks : List Name) → free ≡ false → found ≡ list_any (λ k. same_name x (name k)) ks → found ≡ (free || has_name x (names ks))
-contains_key free found x ks is h = h ∙ has_key x ks ∙ ap (λ b. b || has_name x (names ks)) (sym is)
+pub has_kept : (free found here : Bool) → free ≡ false → found ≡ here → found ≡ (free || here)
+has_kept free found here is h = h ∙ ap (λ b. b || here) (sym is)
 
-or_turned : (a b : Bool) → (a || b) ≡ (b || a)
+pub or_turned : (a b : Bool) → (a || b) ≡ (b || a)
 or_turned true true = refl
 or_turned true false = refl
 or_turned false true = refl
@@ -33,13 +33,10 @@ not_false : (b : Bool) → false ≡ not b → b ≡ true
 not_false true h = refl
 not_false false h = absurd (false≢true h)
 
-has_more : (added : Bool) (k : Name) (ks ns : List Name) → added ≡ not (list_any (λ j. same_name (name k) (name j)) ks) → MatchBool added (IsPermutation (k ∷ ks) ns) (ns ≡ ks) → (y : tree.Name) → has_name y (names ns) ≡ (has_name y (names ks) || same_name y (name k))
+pub has_more : (added : Bool) (k : Name) (ks ns : List Name) → added ≡ not (list_any (λ j. same_name (name k) (name j)) ks) → MatchBool added (IsPermutation (k ∷ ks) ns) (ns ≡ ks) → (y : tree.Name) → has_name y (names ns) ≡ (has_name y (names ks) || same_name y (name k))
 has_more true k ks ns is put y = sym (has_key y ns) ∙ sym (list_any-IsPermutation (λ j. same_name y (name j)) (k ∷ ks) ns put) ∙ has_key y (k ∷ ks) ∙ or_turned (same_name y (name k)) (has_name y (names ks))
 has_more false k ks ns is put y = ap (λ js. has_name y (names js)) put ∙ there_already (name k) y (same_name y (name k)) (names ks) refl (sym (has_key (name k) ks) ∙ not_false (list_any (λ j. same_name (name k) (name j)) ks) is)
 
-or_behind : (a b c d : Bool) → b ≡ (c || d) → (a || b) ≡ ((a || c) || d)
+pub or_behind : (a b c d : Bool) → b ≡ (c || d) → (a || b) ≡ ((a || c) || d)
 or_behind true b c d h = refl
 or_behind false b c d h = h
-
-pub takes_more : (free added : Bool) (k : Name) (ks ns : List Name) → added ≡ not (list_any (λ j. same_name (name k) (name j)) ks) → MatchBool added (IsPermutation (k ∷ ks) ns) (ns ≡ ks) → (y : tree.Name) → (free || has_name y (names ns)) ≡ ((free || has_name y (names ks)) || same_name y (name k))
-takes_more free added k ks ns is put y = or_behind free (has_name y (names ns)) (has_name y (names ks)) (same_name y (name k)) (has_more added k ks ns is put y)

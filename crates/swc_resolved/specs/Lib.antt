@@ -3,3 +3,4 @@ pub mod Names
 pub mod Parts
 pub mod Scopes
 pub mod Exports
+pub mod Once

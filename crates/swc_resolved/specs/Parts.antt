@@ -24,6 +24,7 @@ tree_names part.Params (node l ss cs) = param_name l
 tree_names part.Imports (node l ss cs) = import_names_of l cs
 tree_names part.Specifiers (node l ss cs) = imported_name l
 tree_names part.Cases (node l ss cs) = first_names (declared (body_statements l cs))
+tree_names part.CaseVars (node l ss cs) = vars_all (body_statements l cs)
 
 -- the names that a list of trees gives
 abbrev pub forest_names : Part → Forest → List tree.Name
@@ -34,6 +35,7 @@ forest_names part.Params ts = param_names ts
 forest_names part.Imports ts = import_names ts
 forest_names part.Specifiers ts = specifier_names ts
 forest_names part.Cases ts = first_names (declared (case_statements ts))
+forest_names part.CaseVars ts = vars_all (case_statements ts)
 
 -- the names that a declaration declares
 abbrev pub label_names : tree.Label → Forest → List tree.Name

@@ -33,6 +33,8 @@ pub(crate) enum Part {
     Specifiers,
     /// what stands directly in the cases of a `switch`
     Cases,
+    /// `var` declarations in the cases of a `switch`
+    CaseVars,
 }
 
 /// Adds the names that a list of nodes gives. Fails where memory is refused.
@@ -54,7 +56,7 @@ pub(crate) fn add_names<'a>(
 }
 
 #[cycle(names)]
-#[tactic(auto, using(crate::proofs::Gathered::vars_below, crate::proofs::Gathered::vars_alone, crate::proofs::Gathered::declarators, crate::proofs::Gathered::lone, crate::proofs::Gathered::specifiers, crate::proofs::Gathered::no_import, crate::proofs::Gathered::case_below, crate::proofs::Gathered::no_case, crate::proofs::Gathered::declarator, crate::proofs::Gathered::param, crate::proofs::Gathered::imported))]
+#[tactic(auto, using(crate::proofs::Gathered::vars_below, crate::proofs::Gathered::vars_alone, crate::proofs::Gathered::declarators, crate::proofs::Gathered::lone, crate::proofs::Gathered::specifiers, crate::proofs::Gathered::no_import, crate::proofs::Gathered::case_below, crate::proofs::Gathered::no_case, crate::proofs::Gathered::case_vars_below, crate::proofs::Gathered::no_case_vars, crate::proofs::Gathered::declarator, crate::proofs::Gathered::param, crate::proofs::Gathered::imported))]
 fn add_names_of<'a>(names: &mut Vec<Name<'a>>, n: Node<'a>, part: Part) -> Result<(), AllocError>
     ensures { OnOk result (tree_names_of names.new.items ≡ tree_names_of names.old.items ++ tree_names part (node_tree n.entry)) }
 {
@@ -88,10 +90,19 @@ fn add_names_of<'a>(names: &mut Vec<Name<'a>>, n: Node<'a>, part: Part) -> Resul
             }
             Ok(())
         }
+        Part::CaseVars => {
+            if is_case_body(opened.kind) {
+                return add_names(names, opened.children, Part::Vars);
+            }
+            Ok(())
+        }
     }
 }
 
-fn add_optional<'a>(names: &mut Vec<Name<'a>>, name: Option<Name<'a>>) -> Result<(), AllocError>
+pub(crate) fn add_optional<'a>(
+    names: &mut Vec<Name<'a>>,
+    name: Option<Name<'a>>,
+) -> Result<(), AllocError>
     ensures { OnOk result (tree_names_of names.new.items ≡ tree_names_of names.old.items ++ optional name.entry) }
 {
     if let Some(x) = name {
@@ -262,7 +273,10 @@ pub(crate) fn add_own_names<'a>(
 }
 
 /// Adds what the first part of a `for` declares.
-fn add_head<'a>(names: &mut Vec<Name<'a>>, children: Children<'a>) -> Result<(), AllocError>
+pub(crate) fn add_head<'a>(
+    names: &mut Vec<Name<'a>>,
+    children: Children<'a>,
+) -> Result<(), AllocError>
     ensures { OnOk result (tree_names_of names.new.items ≡ tree_names_of names.old.items ++ first_names (head_names (first_tree (children_forest children.entry)))) }
 {
     match children.next() {
@@ -280,7 +294,8 @@ fn optional_name<'a>(name: &'a Option<Ident>) -> Option<Name<'a>>
     }
 }
 
-fn caught_name<'a>(handler: &'a Option<CatchClause>) -> Option<Name<'a>>
+/// The parameter of a handler.
+pub(crate) fn caught_name<'a>(handler: &'a Option<CatchClause>) -> Option<Name<'a>>
     ensures { optional result ≡ catch_name (handler_param handler.now) }
 {
     match handler {

@@ -1,8 +1,10 @@
-//! Whether a tree is resolved.
+//! What the scopes of a tree bind: whether it is resolved, and whether it is core.
 #![tactic(auto)]
 
 mod apart;
+mod core_trees;
 mod declared;
+mod distinct;
 mod exports;
 mod functions;
 mod jumps;
@@ -10,4 +12,5 @@ mod names;
 mod resolved;
 mod scopes;
 
+pub use core_trees::{is_core, is_script_core};
 pub use resolved::{is_resolved, is_script_resolved};

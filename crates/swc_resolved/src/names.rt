@@ -1,13 +1,13 @@
 //! Names, and sets of them.
-ghost use Rattle.std.specs.Prelude.{◌≡◌, ◌||◌, ◌&&◌, not, OnOk};
+ghost use Rattle.std.specs.Prelude.{◌≡◌, ◌||◌, ◌&&◌, not, [], IfOk, OnOk};
 ghost use Rattle.swc_ast.specs.Marks.{mark_number};
 ghost use Rattle.swc_ast.specs.Meaning.{is_unresolved};
 ghost use Rattle.swc_ast.specs.Parts.{ident_name};
 ghost use Rattle.swc_ast.specs.Resolved.{is_default};
-ghost use Rattle.swc_ast.specs.Scope.{default_name};
+ghost use Rattle.swc_ast.specs.Scope.{default_name, has_name};
 ghost use Rattle.swc_ast.specs.Tree as tree;
 ghost use Rattle.swc_ast.specs.Tree.{same_name};
-ghost use Rattle.swc_resolved.specs.Names.{name, is_free, is_taken};
+ghost use Rattle.swc_resolved.specs.Names.{name, members, is_free, is_taken};
 
 use std::alloc::{AllocError, Global};
 use std::collections::HashSet;
@@ -51,11 +51,43 @@ impl<'a> Name<'a> {
     }
 }
 
+/// A set of names.
+#[derive(Drop)]
+pub(crate) struct NameSet<'a> {
+    names: HashSet<Name<'a>>,
+}
+
+impl<'a> NameSet<'a> {
+    /// The set of no names.
+    pub(crate) fn new(alloc: Global) -> NameSet<'a>
+        ensures { members result ≡ [] }
+    {
+        NameSet {
+            names: HashSet::new(alloc),
+        }
+    }
+
+    /// Whether a name is in the set.
+    pub(crate) fn contains(&self, x: Name<'a>) -> bool
+        ensures { result ≡ has_name (name x.entry) (members self.now) }
+    {
+        self.names.contains(&x)
+    }
+
+    /// Puts a name in, and says whether it is new. Fails where memory is refused.
+    pub(crate) fn insert(&mut self, x: Name<'a>) -> Result<bool, AllocError>
+        ensures added { IfOk result (λ b. b ≡ not (has_name (name x.entry) (members self.old))) }
+        ensures names { OnOk result ((y : tree.Name) → has_name y (members self.new) ≡ (has_name y (members self.old) || same_name y (name x.entry))) }
+    {
+        Ok(self.names.insert(x)?)
+    }
+}
+
 /// The names that no scope may bind any more: those that a scope binds, and those that are
 /// unresolved.
 #[derive(Drop)]
 pub(crate) struct Taken<'a> {
-    names: HashSet<Name<'a>>,
+    names: NameSet<'a>,
     unresolved_mark: Mark,
 }
 
@@ -65,7 +97,7 @@ impl<'a> Taken<'a> {
         ensures { (x : tree.Name) → is_taken result x ≡ is_free (mark_number unresolved_mark) x }
     {
         Taken {
-            names: HashSet::new(alloc),
+            names: NameSet::new(alloc),
             unresolved_mark,
         }
     }
@@ -74,7 +106,7 @@ impl<'a> Taken<'a> {
     pub(crate) fn contains(&self, x: Name<'a>) -> bool
         ensures { result ≡ is_taken self.now (name x.entry) }
     {
-        x.is_free(self.unresolved_mark) || self.names.contains(&x)
+        x.is_free(self.unresolved_mark) || self.names.contains(x)
     }
 
     /// No further scope may bind a name. Fails where memory is refused.
