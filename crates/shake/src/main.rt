@@ -89,7 +89,7 @@ fn run_pass(
     match options.pass {
         PassName::Expr => {
             let mut pass = expr_simplifier(mark, Config {});
-            pass.rewrite(alloc, module)
+            pass.fold_module(alloc, module)
         }
     }
 }
