@@ -8,4 +8,6 @@ mod faults;
 #[cfg(test)]
 mod printed;
 #[cfg(test)]
+mod scopes;
+#[cfg(test)]
 mod trees;
