@@ -4,7 +4,7 @@ use crate::resolution::{block, declare, function, ident};
 use std::alloc::{AllocError, Global};
 use std::test::Fail;
 use swc_ast::{Pat, Stmt, VarDeclKind};
-use swc_scope::{is_core, is_script_core};
+use swc_resolved::{is_core, is_script_core};
 
 /// What is said of a module of one statement.
 fn answer(alloc: Global, s: Stmt) -> Result<bool, Fail> {

@@ -6,7 +6,7 @@ use swc_ast::{
     Ident, IdentName, LabeledStmt, Mark, Module, ModuleDecl, ModuleItem, NamedExport, Pat, Stmt,
     SyntaxContext, VarDecl, VarDeclKind, VarDeclarator,
 };
-use swc_scope::{is_resolved, is_script_resolved};
+use swc_resolved::{is_resolved, is_script_resolved};
 
 /// A name under the mark of a number; 0 stands for the empty context.
 pub(crate) fn ident(alloc: Global, text: &str, mark: u32) -> Result<Ident, AllocError> {

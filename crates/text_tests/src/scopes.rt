@@ -1,6 +1,6 @@
 //! What is read is resolved and core.
 use swc_ast::Mark;
-use swc_scope::{is_core, is_resolved, is_script_core, is_script_resolved};
+use swc_resolved::{is_core, is_resolved, is_script_core, is_script_resolved};
 use swc_text::{read_module, read_script};
 
 #[test]

@@ -1,0 +1,67 @@
+-- Whether a tree is resolved, from its parts.
+use Rattle.std.proofs.Common.{◌≡◌, ℕ, ◌+◌, ◌≤◌, Bool, true, false, not, ◌&&◌, refl, sym, ap, ap₂, subst, ◌∙◌, arith}
+use Rattle.std.proofs.lemmas.Bool.{false≢true}
+use Rattle.std.specs.Bool.{MatchBool}
+use Rattle.std.specs.Prelude.{◌↔◌, IsTrue}
+use Rattle.swc_ast.specs.Tree.{Name, Label, Tree, Forest}
+use Rattle.swc_ast.specs.Meaning.{is_unresolved}
+use Rattle.swc_ast.specs.Resolved.{one_if, is_default, own_scopes, scopes, scopes_all, no_targets, aimed, apart, own_exports_bound, IsResolved}
+use Rattle.swc_visit.specs.Nodes.{label_of, children_of}
+use Rattle.swc_resolved.specs.Names.{is_free}
+use Rattle.swc_resolved.specs.Scopes.{Binds, BindsWell}
+use Rattle.swc_resolved.proofs.Binding.{scopes_as}
+
+-- from what is bound
+
+pub bound_early : (mark : ℕ) (old new : Name → Bool) (t : Tree) (l : Label) (cs : Forest) → label_of t ≡ l → children_of t ≡ cs → ((x : Name) → old x ≡ is_free mark x) → Binds false old new (λ x. own_scopes x l cs) → BindsWell mark t → ⊥
+bound_early mark old new t l cs labelled held free twice well =
+    let x = twice.0 in let all = scopes_as x t l cs labelled held in let least = twice.1 in let most = well.0 x in let same = ap one_if (free x) in
+    omega (arith, all, least, most, same)
+
+pub bound_late : (b : Bool) (mark : ℕ) (old mid new : Name → Bool) (t : Tree) (l : Label) (cs : Forest) → label_of t ≡ l → children_of t ≡ cs → ((x : Name) → old x ≡ is_free mark x) → Binds true old mid (λ x. own_scopes x l cs) → own_exports_bound t ≡ true → Binds b mid new (λ x. scopes_all x cs) → MatchBool b (BindsWell mark t) (BindsWell mark t → ⊥)
+bound_late true mark old mid new t l cs labelled held free first exports rest =
+    ((λ x. let all = scopes_as x t l cs labelled held in let f = first x in let r = rest x in let same = ap one_if (free x) in let small = at_most_one (new x) in omega (arith, all, f, r, same, small)), exports)
+  where
+    at_most_one : (b : Bool) → one_if b ≤ 1
+    at_most_one true = omega arith
+    at_most_one false = omega arith
+bound_late false mark old mid new t l cs labelled held free first exports rest = λ well.
+    let x = rest.0 in let all = scopes_as x t l cs labelled held in let f = first x in let least = rest.1 in let most = well.0 x in let same = ap one_if (free x) in
+    omega (arith, all, f, least, most, same)
+
+-- of all conditions
+
+not_free : (u d : Bool) → u ≡ true → d ≡ false → (u && not d) ≡ true
+not_free u d e f = ap₂ (λ a b. a && not b) e f
+
+none_left : (b : Bool) (n : ℕ) → b ≡ true → one_if b + n ≤ 1 → n ≡ 0
+none_left b n e h = let f = ap one_if e in omega (arith, f, h)
+
+pub resolved : (mark : ℕ) (t : Tree) → BindsWell mark t → aimed no_targets t ≡ true → apart t ≡ true → IsResolved mark t
+resolved mark t well jumps params = record {
+  bound_once = λ x. let h = well.0 x in omega (arith, h);
+  none_unresolved = λ x u d. none_left (is_free mark x) (scopes x t) (not_free (is_unresolved mark x) (is_default x) u d) (well.0 x);
+  jumps_aimed = jumps;
+  params_stand_apart = params;
+  exports_are_bound = well.1;
+}
+
+none_free : (u d : Bool) (n : ℕ) → n ≤ 1 → (u ≡ true → d ≡ false → n ≡ 0) → one_if (u && not d) + n ≤ 1
+none_free true true n h f = omega (arith, h)
+none_free true false n h f = let e = f refl refl in omega (arith, e)
+none_free false d n h f = omega (arith, h)
+
+pub well_bound : (mark : ℕ) (t : Tree) → IsResolved mark t → BindsWell mark t
+well_bound mark t r = ((λ x. none_free (is_unresolved mark x) (is_default x) (scopes x t) (r.bound_once x) (r.none_unresolved x)), r.exports_are_bound)
+
+pub refused : {P : Type 0} → (P → ⊥) → IsTrue false ↔ P
+refused f = ((λ h. absurd (false≢true h)), (λ p. absurd (f p)))
+
+pub badly_bound : (b : Bool) (mark : ℕ) (t : Tree) → b ≡ false → MatchBool b (BindsWell mark t) (BindsWell mark t → ⊥) → IsTrue false ↔ IsResolved mark t
+badly_bound b mark t is h = let unbound : BindsWell mark t → ⊥ = subst (λ c. MatchBool c (BindsWell mark t) (BindsWell mark t → ⊥)) is h in refused (λ r. unbound (well_bound mark t r))
+
+pub unaimed : (b : Bool) (mark : ℕ) (t : Tree) → b ≡ false → b ≡ aimed no_targets t → IsTrue false ↔ IsResolved mark t
+unaimed b mark t is h = refused (λ r. false≢true (sym is ∙ h ∙ r.jumps_aimed))
+
+pub last_decides : (b c d : Bool) (mark : ℕ) (t : Tree) → c ≡ true → MatchBool c (BindsWell mark t) (BindsWell mark t → ⊥) → d ≡ true → d ≡ aimed no_targets t → b ≡ apart t → IsTrue b ↔ IsResolved mark t
+last_decides b c d mark t bound h jumps g e = let well : BindsWell mark t = subst (λ a. MatchBool a (BindsWell mark t) (BindsWell mark t → ⊥)) bound h in ((λ is. resolved mark t well (sym g ∙ jumps) (sym e ∙ is)), (λ r. e ∙ r.params_stand_apart))

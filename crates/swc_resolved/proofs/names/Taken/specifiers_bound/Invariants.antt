@@ -1,0 +1,13 @@
+use Rattle.std.proofs.Common.{◌≡◌}
+use Rattle.swc_ast.specs.Marks.{mark_number}
+use Rattle.swc_ast.specs.Resolved.{specifier_bound}
+use Rattle.swc_visit.specs.Nodes.{children_forest}
+use Rattle.swc_visit.proofs.Caps.{forest_size}
+use Rattle.swc_resolved.specs.Exports.{is_bound}
+use Rattle.swc_resolved.proofs.names.Taken.specifiers_bound.Given as goal
+
+abbrev pub invariant-loop-child : goal.invariant-loop-child
+invariant-loop-child l = specifier_bound (is_bound l.self (mark_number l.unresolved_mark)) (children_forest l.left) ≡ specifier_bound (is_bound l.self (mark_number l.unresolved_mark)) (children_forest l.specifiers)
+
+abbrev pub decreases-loop-child : goal.decreases-loop-child
+decreases-loop-child l = forest_size (children_forest l.left)

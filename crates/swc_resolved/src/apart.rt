@@ -1,0 +1,84 @@
+//! Parameters beside a default.
+ghost use Rattle.std.specs.Prelude.{◌≡◌, IfOk};
+ghost use Rattle.swc_ast.specs.Resolved.{apart, declares_text as declares_among, none_declared as none_among, params_apart};
+ghost use Rattle.swc_visit.specs.Kinds.{kind_label};
+ghost use Rattle.swc_visit.specs.Nodes.{node_tree, children_forest};
+ghost use Rattle.swc_resolved.specs.Scopes.{own_apart};
+ghost use Rattle.swc_resolved.specs.Names.{names as names_of};
+
+use crate::declared::{Part, add_body, add_names};
+use crate::functions::{Half, half_of, has_default, is_function};
+use crate::names::Name;
+use std::alloc::{AllocError, Global};
+use swc_visit::{Children, Kind, Node};
+
+/// Whether each function that has a default declares no text of a parameter in its body. Fails
+/// where memory is refused.
+#[tactic(auto, using(swc_visit::proofs::Caps::opened_smaller, swc_visit::proofs::Caps::child_smaller, swc_visit::proofs::Caps::rest_smaller, swc_visit::proofs::Caps::rest_falls, crate::proofs::Beside::refused_here, crate::proofs::Beside::children_decide))]
+pub(crate) fn is_apart(n: Node<'_>, alloc: Global) -> Result<bool, AllocError>
+    ensures { IfOk result (λ b. b ≡ apart (node_tree n.entry)) }
+{
+    let opened = n.open();
+    if !is_own_apart(opened.kind, opened.children, alloc)? {
+        return Ok(false);
+    }
+    let mut left = opened.children;
+    while let Some((child, rest)) = left.next() {
+        if !is_apart(child, alloc)? {
+            return Ok(false);
+        }
+        left = rest;
+    }
+    Ok(true)
+}
+
+#[tactic(auto, using(crate::proofs::Beside::function_apart))]
+fn is_own_apart(kind: Kind<'_>, children: Children<'_>, alloc: Global) -> Result<bool, AllocError>
+    ensures { IfOk result (λ b. b ≡ own_apart (kind_label kind.entry) (children_forest children.entry)) }
+{
+    if !is_function(kind) {
+        return Ok(true);
+    }
+    are_params_apart(children, alloc)
+}
+
+fn are_params_apart(children: Children<'_>, alloc: Global) -> Result<bool, AllocError>
+    ensures { IfOk result (λ b. b ≡ params_apart (children_forest children.entry)) }
+{
+    let params = half_of(children, Half::Params);
+    if !has_default(params) {
+        return Ok(true);
+    }
+    let mut own = Vec::new(alloc);
+    add_names(&mut own, params, Part::Params)?;
+    let mut declared = Vec::new(alloc);
+    add_body(&mut declared, half_of(children, Half::Body))?;
+    Ok(none_declared(&own, &declared))
+}
+
+/// Whether no text of a parameter is among those of names.
+fn none_declared(params: &[Name<'_>], names: &[Name<'_>]) -> bool
+    ensures { result ≡ none_among (names_of params.now) (names_of names.now) }
+{
+    let mut left = params;
+    while let [param, rest @ ..] = left {
+        if declares_text(names, param.text) {
+            return false;
+        }
+        left = rest;
+    }
+    true
+}
+
+fn declares_text(names: &[Name<'_>], text: &str) -> bool
+    ensures { result ≡ declares_among (names_of names.now) text.now }
+{
+    let mut left = names;
+    while let [name, rest @ ..] = left {
+        if name.text == text {
+            return true;
+        }
+        left = rest;
+    }
+    false
+}

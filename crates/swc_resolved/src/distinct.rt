@@ -1,0 +1,44 @@
+//! Whether names stand in a list once, and lists have no name in common.
+ghost use Rattle.std.specs.Prelude.{◌≡◌, ◌&&◌, IfOk, IfSome};
+ghost use Rattle.swc_ast.specs.Core.{once_each, none_in};
+ghost use Rattle.swc_resolved.specs.Names.{names as names_of, members};
+ghost use Rattle.swc_resolved.specs.Once.{EachOnce, AreMembers};
+
+use crate::names::{Name, NameSet};
+use std::alloc::{AllocError, Global};
+
+/// The set of some names; none where one stands among them twice. Fails where memory is refused.
+#[tactic(auto, using(crate::proofs::Once::one_twice))]
+pub(crate) fn set_of<'a>(
+    names: &[Name<'a>],
+    alloc: Global,
+) -> Result<Option<NameSet<'a>>, AllocError>
+    ensures once { IfOk result (EachOnce (names_of names.now)) }
+    ensures members { IfOk result (λ o. IfSome o (AreMembers (names_of names.now))) }
+{
+    let mut set = NameSet::new(alloc);
+    let mut left = names;
+    while let [name, rest @ ..] = left {
+        if !set.insert(*name)? {
+            return Ok(None);
+        }
+        left = rest;
+    }
+    Ok(Some(set))
+}
+
+impl<'a> NameSet<'a> {
+    /// Whether none of some names is in the set.
+    pub(crate) fn has_none(&self, names: &[Name<'a>]) -> bool
+        ensures { result ≡ none_in (names_of names.now) (members self.now) }
+    {
+        let mut left = names;
+        while let [name, rest @ ..] = left {
+            if self.contains(*name) {
+                return false;
+            }
+            left = rest;
+        }
+        true
+    }
+}

@@ -1,0 +1,119 @@
+//! Names, and sets of them.
+ghost use Rattle.std.specs.Prelude.{◌≡◌, ◌||◌, ◌&&◌, not, [], IfOk, OnOk};
+ghost use Rattle.swc_ast.specs.Marks.{mark_number};
+ghost use Rattle.swc_ast.specs.Meaning.{is_unresolved};
+ghost use Rattle.swc_ast.specs.Parts.{ident_name};
+ghost use Rattle.swc_ast.specs.Resolved.{is_default};
+ghost use Rattle.swc_ast.specs.Scope.{default_name, has_name};
+ghost use Rattle.swc_ast.specs.Tree as tree;
+ghost use Rattle.swc_ast.specs.Tree.{same_name};
+ghost use Rattle.swc_resolved.specs.Names.{name, members, is_free, is_taken};
+
+use std::alloc::{AllocError, Global};
+use std::collections::HashSet;
+use swc_ast::{Ident, Mark, SyntaxContext};
+
+/// A name: its text, and the context that tells names of one text apart.
+#[derive(Clone, Copy, PartialEq, Eq, Hash)]
+pub(crate) struct Name<'a> {
+    pub(crate) text: &'a str,
+    context: SyntaxContext,
+}
+
+impl<'a> Name<'a> {
+    /// The name of an identifier.
+    pub(crate) fn of(ident: &'a Ident) -> Name<'a>
+        ensures { name result ≡ ident_name ident.now }
+    {
+        Name {
+            text: &ident.sym,
+            context: ident.ctxt,
+        }
+    }
+
+    /// The name that a default export has where it has no other.
+    pub(crate) fn of_default() -> Name<'a>
+        ensures { name result ≡ default_name }
+    {
+        Name {
+            text: "*default*",
+            context: SyntaxContext::empty(),
+        }
+    }
+
+    /// Whether the name is unresolved for a mark, that of a default export aside.
+    pub(crate) fn is_free(self, unresolved_mark: Mark) -> bool
+        ensures { result ≡ is_free (mark_number unresolved_mark) (name self.entry) }
+    {
+        let unresolved = SyntaxContext::empty().apply_mark(unresolved_mark);
+        (self.context == SyntaxContext::empty() || self.context == unresolved)
+            && self != Name::of_default()
+    }
+}
+
+/// A set of names.
+#[derive(Drop)]
+pub(crate) struct NameSet<'a> {
+    names: HashSet<Name<'a>>,
+}
+
+impl<'a> NameSet<'a> {
+    /// The set of no names.
+    pub(crate) fn new(alloc: Global) -> NameSet<'a>
+        ensures { members result ≡ [] }
+    {
+        NameSet {
+            names: HashSet::new(alloc),
+        }
+    }
+
+    /// Whether a name is in the set.
+    pub(crate) fn contains(&self, x: Name<'a>) -> bool
+        ensures { result ≡ has_name (name x.entry) (members self.now) }
+    {
+        self.names.contains(&x)
+    }
+
+    /// Puts a name in, and says whether it is new. Fails where memory is refused.
+    pub(crate) fn insert(&mut self, x: Name<'a>) -> Result<bool, AllocError>
+        ensures added { IfOk result (λ b. b ≡ not (has_name (name x.entry) (members self.old))) }
+        ensures names { OnOk result ((y : tree.Name) → has_name y (members self.new) ≡ (has_name y (members self.old) || same_name y (name x.entry))) }
+    {
+        Ok(self.names.insert(x)?)
+    }
+}
+
+/// The names that no scope may bind any more: those that a scope binds, and those that are
+/// unresolved.
+#[derive(Drop)]
+pub(crate) struct Taken<'a> {
+    names: NameSet<'a>,
+    unresolved_mark: Mark,
+}
+
+impl<'a> Taken<'a> {
+    /// The names that are unresolved.
+    pub(crate) fn new(unresolved_mark: Mark, alloc: Global) -> Taken<'a>
+        ensures { (x : tree.Name) → is_taken result x ≡ is_free (mark_number unresolved_mark) x }
+    {
+        Taken {
+            names: NameSet::new(alloc),
+            unresolved_mark,
+        }
+    }
+
+    /// Whether no scope may bind a name any more.
+    pub(crate) fn contains(&self, x: Name<'a>) -> bool
+        ensures { result ≡ is_taken self.now (name x.entry) }
+    {
+        x.is_free(self.unresolved_mark) || self.names.contains(x)
+    }
+
+    /// No further scope may bind a name. Fails where memory is refused.
+    pub(crate) fn add(&mut self, x: Name<'a>) -> Result<(), AllocError>
+        ensures { OnOk result ((y : tree.Name) → is_taken self.new y ≡ (is_taken self.old y || same_name y (name x.entry))) }
+    {
+        self.names.insert(x)?;
+        Ok(())
+    }
+}

@@ -1,8 +1,0 @@
-use Rattle.std.proofs.Common.{sym, ◌∙◌}
-use Rattle.swc_ast.specs.Scope.{has_name}
-use Rattle.swc_scope.specs.Names.{name, members, is_free}
-use Rattle.swc_scope.proofs.Sets.{has_kept}
-use Rattle.swc_scope.proofs.names.Taken.contains.Goals as goal
-
-pub returns-else-is_free : goal.returns-else-is_free
-returns-else-is_free c = has_kept (is_free c.args.self.now.unresolved_mark.0 (name c.args.x)) c.contains.result (has_name (name c.args.x) (members c.args.self.now.names)) (sym c.is_free.ensures ∙ c.if-is_free.false) c.contains.ensures
