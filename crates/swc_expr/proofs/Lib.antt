@@ -1,7 +1,5 @@
-pub mod Powers
-pub mod Digits
-pub mod Computed
+pub mod Defaults
 pub mod Resting
-pub mod FoldSteps
+pub mod Shields
 pub mod Statements
 pub mod SimplifyLaw

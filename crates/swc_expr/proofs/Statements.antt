@@ -1,4 +1,4 @@
--- No fold takes a statement or an item of a module.
+-- No rule of expressions leaves a statement or an item of a module.
 use Rattle.std.proofs.Common.{Bool, refl, ap, ◌∙◌, subst}
 use Rattle.swc_ast.specs.Modules.{item_tree}
 use Rattle.swc_ast.specs.Views.{decl_tree, stmt_tree}
@@ -26,10 +26,11 @@ use Rattle.swc_ast.specs.declared.statements.Stmt.TheVariants as in_stmt
 use Rattle.swc_ast.proofs.Equations.{stmt_tree-Block, stmt_tree-Empty, stmt_tree-Return, stmt_tree-Labeled, stmt_tree-Break, stmt_tree-Continue, stmt_tree-If, stmt_tree-Switch, stmt_tree-Throw, stmt_tree-Try, stmt_tree-While, stmt_tree-DoWhile, stmt_tree-For, stmt_tree-Decl, stmt_tree-Expr, if_tree-is, switch_tree-is, for_tree-is, decl_tree-Fn, decl_tree-Var}
 use Rattle.swc_ast.specs.declared.declarations.Decl.TheViews.{roll-Stmt, out-Stmt, roll-out-Stmt, roll-Decl, out-Decl, roll-out-Decl}
 use Rattle.swc_static.specs.Free.{kind_at}
-use Rattle.swc_expr.specs.Folds.{literal_redex, Rests}
+use Rattle.expr_rules.specs.Replaced.{expr_redex}
+use Rattle.swc_expr.specs.Simplifies.{Rests}
 
 abbrev own : Tree → Bool
-own = kind_at literal_redex
+own = kind_at expr_redex
 
 at_decl : (d : Open.Decl-F Decl BlockStmtOrExpr Expr Prop PropOrSpread Stmt Function ArrowExpr MethodProp ForStmt IfStmt SwitchCase SwitchStmt WhileStmt) → Rests (decl_tree (roll-Decl d))
 at_decl (Open.Decl::Fn n) = ap own (ap decl_tree (in_decl.rolls-Fn n) ∙ decl_tree-Fn n)

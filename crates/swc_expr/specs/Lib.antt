@@ -1,4 +1,3 @@
-pub mod Arithmetic
-pub mod Folds
-pub mod Nodes
+pub mod Places
+pub mod Simplifies
 pub mod Simplified

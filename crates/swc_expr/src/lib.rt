@@ -1,10 +1,9 @@
-//! The expression simplifier: operators on literals become the literal that they give.
+//! The expression simplifier: operators, conditions, sequences, spreads and members of what is known become what they give.
 #![tactic(auto)]
 
-mod arithmetic;
-mod folds;
-mod length;
-mod literals;
+mod defaults;
+mod places;
+mod rules;
 mod simplify;
 
 pub use simplify::{Config, SimplifyExpr, expr_simplifier};

@@ -1,23 +1,23 @@
 //! The pass.
-ghost use Rattle.std.specs.Prelude.{◌≡◌, IsTrue, true, false};
+ghost use Rattle.std.specs.Prelude.{◌≡◌, false};
 ghost use Rattle.swc_ast.specs.declared.names.Mark.{Mark};
-ghost use Rattle.swc_ast.specs.Redex as redex;
-ghost use Rattle.swc_ast.specs.Views.{expr_tree};
-ghost use Rattle.swc_static.specs.Names.{label_of};
-ghost use Rattle.swc_expr.specs.Folds.{simplify_pass};
+ghost use Rattle.swc_ast.specs.Marks.{mark_number};
+ghost use Rattle.swc_utils.specs.Globals.{unresolved};
 ghost use Rattle.swc_expr.specs.Simplified.{simplify_spec, simplify_lawful};
 
-use crate::folds::fold;
-use std::alloc::{AllocError, Global};
-use swc_ast::{Expr, Mark, Module, ModuleItem, PassError, Script, Stmt, UnaryOp};
+use crate::rules::ExprRules;
+use std::alloc::Global;
+use swc_ast::{Mark, Module, PassError, Script, SyntaxContext};
 use swc_pass::{CompilerPass, Pass, Repeated};
-use swc_walk::{ListPlace, Place, Rules, walk_module, walk_script};
+use swc_utils::ExprCtx;
+use swc_walk::{walk_module, walk_script};
 
 /// What the expression simplifier may be told: nothing.
 #[derive(Clone, Copy, Debug, Default, PartialEq, Eq, Hash)]
 pub struct Config {}
 
-/// A pass that folds operators on literals, in one walk, children first.
+/// A pass that simplifies expressions, in one walk, children first: operators on known operands, conditions of known
+/// truth, sequences, spreads and members of literals, and defaults that are undefined anyway.
 #[derive(Drop)]
 pub struct SimplifyExpr {
     unresolved_mark: Mark,
@@ -37,54 +37,18 @@ pub fn expr_simplifier(unresolved_mark: Mark, config: Config) -> SimplifyExpr
     }
 }
 
-/// Operators on literals become the literal that they give.
-#[derive(Drop)]
-struct LiteralFolds {}
-
-impl Rules for LiteralFolds {
-    ghost pass = { λ _. simplify_pass };
-
-    fn enters_expr(&self, e: &Expr) -> bool {
-        !is_delete(e)
-    }
-
-    fn leave_expr(&self, _place: Place, e: &mut Expr) -> Result<bool, AllocError> {
-        match fold(e)? {
-            Some(literal) => {
-                *e = Expr::Lit(literal);
-                Ok(true)
-            }
-            None => Ok(false),
+impl SimplifyExpr {
+    /// The rules of a run.
+    fn rules(&self, alloc: Global) -> ExprRules
+        ensures { unresolved result.ctx ≡ mark_number self.now.unresolved_mark }
+    {
+        ExprRules {
+            alloc,
+            ctx: ExprCtx {
+                unresolved_ctxt: SyntaxContext::empty().apply_mark(self.unresolved_mark),
+                is_unresolved_ref_safe: false,
+            },
         }
-    }
-
-    fn leave_stmt(&self, _s: &mut Stmt) -> Result<bool, AllocError> {
-        Ok(false)
-    }
-
-    fn leave_list(&self, _place: ListPlace, _stmts: &mut Vec<Stmt>) -> Result<bool, AllocError> {
-        Ok(false)
-    }
-
-    fn leave_item(&self, _item: &mut ModuleItem) -> Result<bool, AllocError> {
-        Ok(false)
-    }
-
-    fn leave_items(&self, _items: &mut Vec<ModuleItem>) -> Result<bool, AllocError> {
-        Ok(false)
-    }
-}
-
-/// Whether an expression is `delete` of something.
-fn is_delete(e: &Expr) -> bool
-    ensures { IsTrue result → redex.is_delete (label_of (expr_tree e.now)) ≡ true }
-{
-    match e {
-        Expr::Unary(n) => match n.op {
-            UnaryOp::Delete => true,
-            _ => false,
-        },
-        _ => false,
     }
 }
 
@@ -125,16 +89,16 @@ impl Pass for SimplifyExpr {
     }
 
     #[tactic(auto, using(crate::proofs::SimplifyLaw::simplified, crate::proofs::SimplifyLaw::tells))]
-    fn rewrite(&mut self, _alloc: Global, mut module: Module) -> Result<Module, PassError> {
+    fn rewrite(&mut self, alloc: Global, mut module: Module) -> Result<Module, PassError> {
         self.changed = false;
-        self.changed = walk_module(&LiteralFolds {}, &mut module)?;
+        self.changed = walk_module(&self.rules(alloc), &mut module)?;
         Ok(module)
     }
 
     #[tactic(auto, using(crate::proofs::SimplifyLaw::simplified, crate::proofs::SimplifyLaw::tells))]
-    fn rewrite_script(&mut self, _alloc: Global, mut script: Script) -> Result<Script, PassError> {
+    fn rewrite_script(&mut self, alloc: Global, mut script: Script) -> Result<Script, PassError> {
         self.changed = false;
-        self.changed = walk_script(&LiteralFolds {}, &mut script)?;
+        self.changed = walk_script(&self.rules(alloc), &mut script)?;
         Ok(script)
     }
 

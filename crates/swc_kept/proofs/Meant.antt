@@ -4,17 +4,17 @@ use Rattle.std.proofs.lemmas.Bool.{false≢true, true≢false, or_parts, or_from
 use Rattle.swc_ast.specs.declared.Span.{Span}
 use Rattle.swc_ast.specs.Meaning.{eval}
 use Rattle.swc_ast.specs.Scope.{has_name, imported_name, specifier_names}
-use Rattle.swc_ast.specs.Tree.{Name, Text, Label, Block, Body, CaseBody, VarDecl, FnDecl, Import, ExportDecl, Module, Script, Tree, node, Forest, ◌⊳◌}
+use Rattle.swc_ast.specs.Tree.{Name, Text, Label, Param, Block, Body, CaseBody, VarDecl, FnDecl, Import, ExportDecl, Module, Script, Tree, node, Forest, ε, ◌⊳◌}
 use Rattle.swc_ast.specs.Run.{Same, sources, source_of, once, exported}
 use Rattle.swc_meaning.specs.Names as names
 use Rattle.swc_meaning.specs.Names.{Names, Watched, Exported}
-use Rattle.swc_meaning.specs.Exact.{Idle}
+use Rattle.swc_meaning.specs.Exact.{Idle, GivesUndefined}
 use Rattle.swc_meaning.specs.Sameness.{heeded, ignoring}
 use Rattle.swc_meaning.specs.Roles as roles
 use Rattle.swc_meaning.specs.Roles.{label, is_item, Clean, DeclaresNone}
 use Rattle.swc_meaning.specs.Rewrites.{is_exported, Specifiers, no_more as no_specifiers, keep, skip}
 use Rattle.swc_meaning.specs.Walks as meaning
-use Rattle.swc_meaning.specs.Walks.{Steps, StepsRight, AllClean, AllCleanIn, WalksAll, WalksWhole, no_names, as_it_is, early, at_node, at_list, at_declarators, at_import, at_export, no_more, one_more, goes, goes_behind, walks_module, walks_script}
+use Rattle.swc_meaning.specs.Walks.{Steps, StepsRight, AllClean, AllCleanIn, WalksAll, WalksWhole, no_names, as_it_is, early, at_node, at_list, at_declarators, at_default, at_import, at_export, no_more, one_more, goes, goes_behind, walks_module, walks_script}
 use Rattle.swc_meaning.proofs.Idles.{idle_import, import_declares}
 use Rattle.swc_meaning.proofs.Spans.{no_dead_in, none_dead, living_clean_in}
 use Rattle.swc_meaning.proofs.Walking.{same_sources, walk_all, walk_same}
@@ -22,7 +22,7 @@ use Rattle.swc_static.specs.Together.{is_module}
 use Rattle.swc_static.proofs.Names.{has_name_append}
 use Rattle.swc_walk.specs.Pass.{Pass, is_plain, is_block, is_whole, is_declaration}
 use Rattle.swc_walk.specs.Walks.{Walks, closed, opened, passes, stands, stepped, Entered, plain, exported as exported_node, imports, block, ListMade, listed, tidied, Whole, whole, AllWalk, nothing, both}
-use Rattle.swc_kept.specs.Meant.{Sifts, sifted, stays_there, goes_there, ListStep, sifts_then, Unused, unused, ItemGoes, statement_goes, import_goes, ItemsStep, items_then, NodeStep, alone, of_declarators, of_specifiers, of_export, Meant}
+use Rattle.swc_kept.specs.Meant.{Sifts, sifted, stays_there, goes_there, ListStep, sifts_then, Unused, unused, ItemGoes, statement_goes, import_goes, ItemsStep, items_then, NodeStep, alone, of_declarators, of_default, of_specifiers, of_export, Meant}
 
 block_is : (l : Label) → is_block l ≡ true → roles.is_list l ≡ true
 block_is Block h = refl
@@ -99,15 +99,20 @@ module _ {N : Names} {mark : ℕ} {H : Steps} where
     block_meant : (l : Label) {ss : List Span} {ts us : Forest} {w : Tree} → is_block l ≡ true → ListOf N mark H ts us → H.Node (node l ss us) w → meaning.Walks N mark H (node l ss ts) w
     block_meant l {ts = ts} b (list_of ws h) n = at_list l (block_is l b) (m.before_stays ts) ws h n
 
-    plain_stepped : (l : Label) {ss : List Span} {ts us : Forest} {w : Tree} → is_plain l ≡ true → Clean N mark l → ((b : Bool) → WalksAll N mark H b ts us) → NodeStep N H (node l ss us) w → meaning.Walks N mark H (node l ss ts) w
+    default_meant : {x : Name} {ss rs : List Span} {ts : Forest} {t : Tree} → Clean N mark (Param x) → WalksAll N mark H false ts (t ⊳ ε) → GivesUndefined mark t → meaning.Walks N mark H (node (Param x) ss ts) (node (Param x) rs ε)
+    default_meant c (one_more w no_more) y = at_default c.0 c.1 w y
+
+    plain_stepped : (l : Label) {ss : List Span} {ts us : Forest} {w : Tree} → is_plain l ≡ true → Clean N mark l → ((b : Bool) → WalksAll N mark H b ts us) → NodeStep N mark H (node l ss us) w → meaning.Walks N mark H (node l ss ts) w
     plain_stepped l p c ws (alone i j n) = plain_meant l p c ws n
     plain_stepped (VarDecl k) p c ws (of_declarators j s n) = at_declarators k (sift (ws true) s) n
+    plain_stepped (Param x) p c ws (of_default y) = default_meant c (ws false) y
     plain_stepped (Import src) p c ws (of_specifiers s) = absurd (false≢true p)
     plain_stepped ExportDecl p c ws (of_export n x) = absurd (false≢true p)
 
-    block_stepped : (l : Label) {ss : List Span} {ts us : Forest} {w : Tree} → is_block l ≡ true → ListOf N mark H ts us → NodeStep N H (node l ss us) w → meaning.Walks N mark H (node l ss ts) w
+    block_stepped : (l : Label) {ss : List Span} {ts us : Forest} {w : Tree} → is_block l ≡ true → ListOf N mark H ts us → NodeStep N mark H (node l ss us) w → meaning.Walks N mark H (node l ss ts) w
     block_stepped l b ws (alone i j n) = block_meant l b ws n
     block_stepped (VarDecl k) b ws (of_declarators j s n) = absurd (false≢true b)
+    block_stepped (Param x) b ws (of_default y) = absurd (false≢true b)
     block_stepped (Import src) b ws (of_specifiers s) = absurd (false≢true b)
     block_stepped ExportDecl b ws (of_export n x) = absurd (false≢true b)
 
@@ -125,7 +130,7 @@ module _ {N : Names} {mark : ℕ} {H : Steps} where
       entered_meant (imports u) k = as_it_is refl k
       entered_meant (block {l = l} {ss = ss} {us = us} b w) k = block_meant l b (list_meant (block_no_module l b) w k.1.1) (m.node_stays (node l ss us))
 
-      stepped_meant : {c : Bool} {a b d : Tree} → Entered X c a b → AllClean N mark a → NodeStep N H b d → meaning.Walks N mark H a d
+      stepped_meant : {c : Bool} {a b d : Tree} → Entered X c a b → AllClean N mark a → NodeStep N mark H b d → meaning.Walks N mark H a d
       stepped_meant (plain {l = l} p ws) k n = plain_stepped l p k.0 (λ b. all_meant b ws k.1.1) n
       stepped_meant (exported_node d ws) k (alone i j n) = absurd (true≢false i)
       stepped_meant (exported_node {l = l} d ws) k (of_export n x) = at_export l (declaration_is l d) k.1.1.0.0 (all_meant false ws k.1.1.0.1.1) n x
@@ -148,9 +153,10 @@ module _ {N : Names} {mark : ℕ} {H : Steps} where
     entered_from (imports u) e = e
     entered_from (block b w) (unused h) = absurd (false≢true b)
 
-    stepped_from : {c : Bool} {a b d : Tree} → Entered X c a b → NodeStep N H b d → Unused N d → Unused N a
+    stepped_from : {c : Bool} {a b d : Tree} → Entered X c a b → NodeStep N mark H b d → Unused N d → Unused N a
     stepped_from w (alone i j n) e = absurd (true≢false (sym (unused_item e) ∙ j))
     stepped_from w (of_declarators j s n) e = absurd (true≢false (sym (unused_item e) ∙ j))
+    stepped_from w (of_default y) e = elim e [ ]
     stepped_from w (of_export n x) e = elim e [ ]
     stepped_from w (of_specifiers s) (unused h) = entered_from w (unused (λ x k. unused_before s x k (h x k)))
 

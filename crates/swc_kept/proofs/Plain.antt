@@ -11,8 +11,8 @@ use Rattle.swc_meaning.proofs.Imports.{part_imports_none}
 use Rattle.swc_meaning.proofs.Spans.{living_clean, no_dead, none_dead}
 use Rattle.swc_walk.specs.Pass.{Pass}
 use Rattle.swc_walk.specs.Walks.{Whole}
-use Rattle.swc_kept.specs.Meant.{Sifts, sifted, stays_there, Meant, sifts_then, items_then, alone}
-use Rattle.swc_kept.specs.Plain.{PlainRight, Moves, unmoved, moved, ListMoves, unmoved_list, moved_list, plain_steps}
+use Rattle.swc_kept.specs.Meant.{Sifts, sifted, stays_there, Meant, NodeStep, sifts_then, items_then, alone, of_default}
+use Rattle.swc_kept.specs.Plain.{NodeRight, does_same, default_goes, PlainRight, Moves, unmoved, moved, ListMoves, unmoved_list, moved_list, plain_steps}
 use Rattle.swc_kept.proofs.Meant.{plain_same, unused_idle, unused_declares}
 
 sifts_itself : (G : Tree → Type 0) (ts : Forest) → Sifts G ts ts
@@ -24,12 +24,16 @@ no_item_of : {N : Names} {t u : Tree} → Fits N t u → is_item (label t) ≡ f
 no_item_of unchanged i = i
 no_item_of {u = u} (changed p q s) i = part_imports_none (label u) q
 
-plain_meant : {X : Pass} {mark : ℕ} → PlainRight X mark → (loads : Bool) → Meant X no_names mark loads (plain_steps X)
+right_step : {X : Pass} {mark : ℕ} {t u : Tree} → NodeRight mark t u → NodeStep no_names mark (plain_steps mark X) t u
+right_step (does_same e f i) = alone i (no_item_of f i) (moved (e, f))
+right_step (default_goes y) = of_default y
+
+plain_meant : {X : Pass} {mark : ℕ} → PlainRight X mark → (loads : Bool) → Meant X no_names mark loads (plain_steps mark X)
 plain_meant {X} {mark} p loads = record {
   open_step = λ t u s. s;
   open_no_item = λ t u s. no_item_of (p.open_fits t u s) (p.open_no_item t u s);
   open_clean = λ t u s k. living_clean (none_dead mark) u (no_dead u);
-  node_step = λ t u s. alone (p.no_item t u s) (no_item_of (p.node_fits t u s) (p.no_item t u s)) (moved s);
+  node_step = λ t u s. right_step (p.node_right t u s);
   list_step = λ l ts us i s. sifts_then (sifts_itself (λ t. ⊥) ts) (moved_list l s);
   items_step = λ ts us s. items_then (sifts_itself _ ts) (moved_list Module s) (p.items_stay ts us s);
   unused_goes = λ t u. u;
@@ -38,7 +42,7 @@ plain_meant {X} {mark} p loads = record {
   before_stays = λ ts. unmoved_list;
 }
 
-plain_steps_right : {X : Pass} {mark : ℕ} → PlainRight X mark → StepsRight no_names mark (plain_steps X)
+plain_steps_right : {X : Pass} {mark : ℕ} → PlainRight X mark → StepsRight no_names mark (plain_steps mark X)
 plain_steps_right {X} {mark} p = record {
   firm = λ x. refl;
   early_trims = λ t u s. exact_trims (p.open_exact t u s);
@@ -56,13 +60,13 @@ plain_steps_right {X} {mark} p = record {
   goes_behind_no_item = λ t e. elim e [ ];
 }
   where
-    exact : {t u : Tree} → Moves X.steps t u → Exact mark t u
+    exact : {t u : Tree} → Moves (λ t u. Exact mark t u × Fits no_names t u) t u → Exact mark t u
     exact {t} unmoved = exact_itself mark t
-    exact {t} {u} (moved s) = p.node_exact t u s
+    exact (moved s) = s.0
 
-    fit : {t u : Tree} → Moves X.steps t u → Fits no_names t u
+    fit : {t u : Tree} → Moves (λ t u. Exact mark t u × Fits no_names t u) t u → Fits no_names t u
     fit unmoved = unchanged
-    fit {t} {u} (moved s) = p.node_fits t u s
+    fit (moved s) = s.1
 
     before : {ts us : Forest} → ListMoves (λ l ts us. ⊥) ts us → ListExact mark ts us
     before {ts} unmoved_list = list_exact_itself mark ts

@@ -1,5 +1,5 @@
 -- Objects and functions, once their parts are walked.
-use Rattle.std.proofs.Common.{◌≡◌, Bool, true, ◌||◌, refl, sym, ap, ◌∙◌, subst, List, [], ◌∷◌}
+use Rattle.std.proofs.Common.{◌≡◌, Bool, true, false, ◌||◌, refl, sym, ap, ◌∙◌, subst, List, [], ◌∷◌}
 use Rattle.std.specs.declared.alloc.Global.{Global}
 use Rattle.std.specs.declared.boxed.Box.{Box}
 use Rattle.std.specs.declared.vec.Vec.{Vec}
@@ -35,7 +35,7 @@ use Rattle.swc_ast.specs.declared.statements.Stmt.{Stmt}
 use Rattle.swc_ast.proofs.Equations.{expr_tree-Object, expr_tree-Fn, expr_tree-Arrow, prop_or_spread_tree-Spread, prop_or_spread_tree-Prop, prop_tree-KeyValue, prop_tree-Method, arrow_body_tree-BlockStmt, arrow_body_tree-Expr, method_tree-is, method_tree-roll}
 use Rattle.swc_walk.specs.Walks.{Walks, both, Inside, parts, Each}
 use Rattle.swc_walk.specs.StatementParts.{FunctionWalks}
-use Rattle.swc_walk.proofs.Walked.{passed, walks_at, inside_at, one_child, two_children, each_list}
+use Rattle.swc_walk.proofs.Walked.{sees, passed, walks_at, inside_at, one_child, two_children, each_list}
 use Rattle.swc_walk.specs.Pass.{Pass, is_plain}
 
 pub object_arm : {X : Pass} {e f : Expr} {n m : ObjectLit PropOrSpread} {d : Bool} (b : Vec PropOrSpread Global) → e ≡ in_expr.Object n → m ≡ n → f ≡ in_expr.Object (record n { props = b }) → Each (λ x y d. Walks X d (prop_or_spread_tree x) (prop_or_spread_tree y)) m.props.items b.items d → Inside X d (expr_tree e) (expr_tree f)
@@ -79,9 +79,13 @@ pub computed_key : {X : Pass} {c : Bool} (e f : PropName Expr) (n m : ComputedPr
 computed_key {X} {c} e f n m a is same after w =
     walks_at (ap (key_tree expr_tree) is) (ap (key_tree expr_tree) after) (passed refl refl (one_child (subst (λ k. Walks X c (expr_tree k.expr.value) (expr_tree a.value)) same w)))
 
-pub assign_param : {X : Pass} {c : Bool} (e f : Pat Expr) (n m : AssignPat Expr) (a : Box Expr Global) → e ≡ pat.Assign n → m ≡ n → f ≡ pat.Assign (record n { right = a }) → Walks X c (expr_tree m.right.value) (expr_tree a.value) → Walks X c (param_tree expr_tree e) (param_tree expr_tree f)
+pub assign_param : {X : Pass} {c : Bool} (e f : Pat Expr) (n m : AssignPat Expr) (a : Box Expr Global) → e ≡ pat.Assign n → m ≡ n → f ≡ pat.Assign (record n { right = a }) → Walks X c (expr_tree m.right.value) (expr_tree a.value) → Inside X c (param_tree expr_tree e) (param_tree expr_tree f)
 assign_param {X} {c} e f n m a is same after w =
-    walks_at (ap (param_tree expr_tree) is) (ap (param_tree expr_tree) after) (passed refl refl (one_child (subst (λ k. Walks X c (expr_tree k.right.value) (expr_tree a.value)) same w)))
+    inside_at (ap (param_tree expr_tree) is) (ap (param_tree expr_tree) after) (parts refl (one_child (subst (λ k. Walks X c (expr_tree k.right.value) (expr_tree a.value)) same w)))
+
+pub param_unseen : (p : Pat Expr) → sees (param_tree expr_tree p) ≡ false
+param_unseen (pat.Ident n) = refl
+param_unseen (pat.Assign n) = refl
 
 pub function_made : {X : Pass} {f g : FunctionTrees} {c d : Bool} (s : Span) (ps qs : Vec (Pat Expr) Global) (a b : BlockStmt Stmt) → f ≡ function_parts expr_tree stmt_tree s ps a → g ≡ function_parts expr_tree stmt_tree s qs b → Each (λ x y d. Walks X d (param_tree expr_tree x) (param_tree expr_tree y)) ps.items qs.items c → Walks X d (body_tree stmt_tree a) (body_tree stmt_tree b) → FunctionWalks X f g (c || d)
 function_made {X} {f} {g} {c} {d} s ps qs a b p q h w =

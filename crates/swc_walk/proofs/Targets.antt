@@ -20,9 +20,10 @@ use Rattle.swc_ast.specs.declared.expressions.MemberProp.TheVariants as prop
 use Rattle.swc_ast.specs.declared.literals.Lit.{Lit}
 use Rattle.swc_ast.specs.declared.literals.Lit.TheVariants as lit
 use Rattle.swc_ast.specs.declared.names.Ident.{Ident}
+use Rattle.swc_walk.specs.declared.rules.Place.{Place}
 use Rattle.swc_walk.specs.declared.rules.Place.TheVariants as place
 use Rattle.swc_walk.specs.Walks.{Placed, Walks, AllWalk, nothing, both, Inside, parts, Fits}
-use Rattle.swc_walk.specs.Parts.{member_tree_is, name_tree_is, part_of_call_is, eval_tree_is, is_typeof, place_of, update_of, assign_of, TargetWalks, CalleeWalks, OperandWalks}
+use Rattle.swc_walk.specs.Parts.{member_tree_is, name_tree_is, part_of_call_is, eval_tree_is, is_typeof, operand_of, update_of, assign_of, TargetWalks, CalleeWalks, OperandWalks}
 use Rattle.swc_walk.proofs.Walked.{all_then, one_child, inside_at, shallow_inside}
 use Rattle.swc_walk.specs.Pass.{Pass, is_shallow}
 
@@ -74,22 +75,22 @@ unfolding unary_node
 plain_typeof s (node (tree.Read x) ss cs) h = absurd (false≢true (sym h))
 plain_typeof s (node l ss cs) h = refl
 
-fits_name : (t : Tree) → IsFalse (name_tree_is t) → Fits (place_of op.TypeOf) t
+fits_name : (t : Tree) → IsFalse (name_tree_is t) → Fits place.TypeOf t
 fits_name (node l ss ts) h = h
 
-name_fits : (t : Tree) → Fits (place_of op.TypeOf) t → IsFalse (name_tree_is t)
+name_fits : (t : Tree) → Fits place.TypeOf t → IsFalse (name_tree_is t)
 name_fits (node l ss ts) h = h
 
 -- an operand that is no part of the label
-pub plain_operand : {X : Pass} (o : UnaryOp) (t u : Tree) (c : Bool) → IsFalse (is_typeof o && name_tree_is t) → Placed X (place_of o) t u c → OperandWalks X o t u c
+pub plain_operand : {X : Pass} (p : Place) (o : UnaryOp) (t u : Tree) (c : Bool) → IsFalse (is_typeof o && name_tree_is t) → Placed X (operand_of o p) t u c → OperandWalks X o t u c
 unfolding unary_node
-plain_operand {X} op.TypeOf t u c h w = λ s. inside_at (plain_typeof s t h) (plain_typeof s u (name_fits u (w.1 (fits_name t h)))) (parts refl (one_child w.0))
-plain_operand {X} op.Minus t u c h w = λ s. parts refl (one_child w.0)
-plain_operand {X} op.Plus t u c h w = λ s. parts refl (one_child w.0)
-plain_operand {X} op.Bang t u c h w = λ s. parts refl (one_child w.0)
-plain_operand {X} op.Tilde t u c h w = λ s. parts refl (one_child w.0)
-plain_operand {X} op.Void t u c h w = λ s. parts refl (one_child w.0)
-plain_operand {X} op.Delete t u c h w = λ s. parts refl (one_child w.0)
+plain_operand {X} p op.TypeOf t u c h w = λ s. inside_at (plain_typeof s t h) (plain_typeof s u (name_fits u (w.1 (fits_name t h)))) (parts refl (one_child w.0))
+plain_operand {X} p op.Minus t u c h w = λ s. parts refl (one_child w.0)
+plain_operand {X} p op.Plus t u c h w = λ s. parts refl (one_child w.0)
+plain_operand {X} p op.Bang t u c h w = λ s. parts refl (one_child w.0)
+plain_operand {X} p op.Tilde t u c h w = λ s. parts refl (one_child w.0)
+plain_operand {X} p op.Void t u c h w = λ s. parts refl (one_child w.0)
+plain_operand {X} p op.Delete t u c h w = λ s. parts refl (one_child w.0)
 
 -- a name under `typeof`, which the walk leaves as it is
 pub kept_operand : {X : Pass} (o : UnaryOp) (t : Tree) → IsTrue (is_typeof o && name_tree_is t) → is_shallow t ≡ true → OperandWalks X o t t false

@@ -9,7 +9,7 @@ use Rattle.swc_ast.specs.Parts.{list_trees, then_all}
 use Rattle.swc_ast.specs.declared.Span.{Span}
 use Rattle.swc_walk.specs.declared.rules.Place.{Place}
 use Rattle.swc_walk.specs.declared.rules.Place.TheVariants as place
-use Rattle.swc_walk.specs.Walks.{Walks, closed, opened, passes, stands, stepped, Entered, plain, exported, imports, block, ListMade, listed, tidied, Whole, whole, AllWalk, nothing, both, Inside, parts, Opened, Became, Fits, Placed, Each, none, more}
+use Rattle.swc_walk.specs.Walks.{Walks, closed, opened, passes, stands, stepped, Entered, plain, exported, imports, block, ListMade, listed, tidied, Whole, whole, AllWalk, nothing, both, Inside, parts, Opened, Stepped, Became, Fits, Placed, Each, none, more}
 use Rattle.swc_walk.specs.Pass.{Pass, is_visited, is_plain, is_unvisited, are_unvisited, is_shallow}
 
 pub or_assoc : (a b c : Bool) → ((a || b) || c) ≡ (a || (b || c))
@@ -100,6 +100,17 @@ mutual
 pub passed : {X : Pass} {c : Bool} {l : Label} {ss : List Span} {ts us : Forest} → is_visited l ≡ false → is_plain l ≡ true → AllWalk X c ts us → Walks X c (node l ss ts) (node l ss us)
 passed h i ws = passes h (plain i ws)
 
+-- a node that no rule sees but one of its own
+abbrev pub sees : Tree → Bool
+sees (node l ss ts) = is_visited l
+
+passed_by : {X : Pass} {c : Bool} {a b : Tree} → sees b ≡ false → Inside X c a b → Walks X c a b
+passed_by h (parts i ts) = passes h (plain i ts)
+
+pub shortened : {X : Pass} {a b e : Tree} (c d : Bool) → sees b ≡ false → Inside X c a b → Stepped X d b e → Walks X (c || d) a e
+shortened {X} {a} {b} {e} c true h w s = subst (λ k. Walks X k a e) (sym (or_true c)) (stepped (inside_entered w) s)
+shortened {X} {a} {b} {e} c false h w s = subst (λ k. Walks X k a e) (sym (or_none c)) (subst (λ k. Walks X c a k) (sym s) (passed_by h w))
+
 pub walks_at : {X : Pass} {c : Bool} {a b x y : Tree} → a ≡ x → b ≡ y → Walks X c x y → Walks X c a b
 walks_at {X} {c} {a} {b} {x} {y} p q h = subst (λ z. Walks X c z b) (sym p) (subst (λ z. Walks X c x z) (sym q) h)
 
@@ -116,6 +127,7 @@ whole_same (whole {l = l} {ss = ss} i w) h = ap (node l ss) (list_same w h)
 pub fits_inside : {X : Pass} {c : Bool} {a b : Tree} (p : Place) → Inside X c a b → Fits p a → Fits p b
 fits_inside place.Value (parts i ts) h = h
 fits_inside place.Statement (parts i ts) h = h
+fits_inside place.Part (parts i ts) h = h
 fits_inside place.Callee (parts i ts) h = h
 fits_inside place.TypeOf (parts i ts) h = h
 fits_inside place.Delete (parts i ts) h = h

@@ -1,5 +1,5 @@
 -- What the walk makes of the parts that are no nodes of their own.
-use Rattle.std.specs.Prelude.{Bool, true, false, ◌||◌, ◌≡◌, ◌∷◌, Option, Some, None}
+use Rattle.std.specs.Prelude.{Bool, true, false, not, ◌||◌, ◌≡◌, ◌∷◌, Option, Some, None}
 use Rattle.std.specs.declared.alloc.Global.{Global}
 use Rattle.std.specs.declared.boxed.Box.{Box}
 use Rattle.swc_ast.specs.Tree as tree
@@ -36,16 +36,33 @@ abbrev pub eval_tree_is : Tree → Bool
 eval_tree_is (node (tree.Read x) ss ts) = is_eval x
 eval_tree_is t = false
 
+-- a member or a name
+abbrev pub is_bare : Tree → Bool
+is_bare t = member_tree_is t || name_tree_is t
+
 -- the operator `typeof`
 abbrev pub is_typeof : UnaryOp → Bool
 is_typeof op.TypeOf = true
 is_typeof o = false
 
--- where the operand of an operator stands
-abbrev pub place_of : UnaryOp → Place
-place_of op.TypeOf = place.TypeOf
-place_of op.Delete = place.Delete
-place_of o = place.Value
+-- whether a tree is a node of its own where it stands
+abbrev pub stands_alone : Place → Tree → Bool
+stands_alone place.Callee t = not (part_of_call_is t)
+stands_alone place.TypeOf t = not (name_tree_is t)
+stands_alone place.Delete t = not (member_tree_is t)
+stands_alone p t = true
+
+-- where a part of an expression stands, by where the expression stands
+abbrev pub part_of : Place → Place
+part_of place.Callee = place.Part
+part_of place.Part = place.Part
+part_of p = place.Value
+
+-- where the operand of an operator stands, by where the operator stands
+abbrev pub operand_of : UnaryOp → Place → Place
+operand_of op.TypeOf p = place.TypeOf
+operand_of op.Delete p = place.Delete
+operand_of o p = part_of p
 
 -- an expression, if any
 abbrev pub OptionWalks : {N : Type 0} → Pass → (N → Tree) → Option (Box N Global) → Option (Box N Global) → Bool → Type 0

@@ -57,6 +57,11 @@ abbrev pub Opened : Pass → Bool → Tree → Tree → Type 0
 Opened X true a b = X.opens a b
 Opened X false a b = b ≡ a
 
+-- what a rule did at a node that the other rules don't see: a step, or nothing
+abbrev pub Stepped : Pass → Bool → Tree → Tree → Type 0
+Stepped X true a b = X.steps a b
+Stepped X false a b = b ≡ a
+
 -- what a rule did: a step, or nothing
 abbrev pub Became : Pass → Bool → Tree → Tree → Type 0
 Became X true a b = X.steps a b
@@ -91,6 +96,7 @@ Fits place.TypeOf (node l ss ts) = IsFalse (is_name l)
 Fits place.Delete (node l ss ts) = IsFalse (is_member l)
 Fits place.Value t = Unit {0}
 Fits place.Statement t = Unit {0}
+Fits place.Part t = Unit {0}
 
 -- a walk of one tree that keeps it fitting where it stands
 abbrev pub Placed : Pass → Place → Tree → Tree → Bool → Type 0

@@ -1,7 +1,7 @@
 //! What kind of node an expression is.
 ghost use Rattle.std.specs.Prelude.{◌≡◌, ◌&&◌, IsTrue, IsFalse, not};
 ghost use Rattle.swc_ast.specs.Views.{expr_tree};
-ghost use Rattle.swc_walk.specs.Parts.{member_tree_is, name_tree_is, part_of_call_is, eval_tree_is, is_typeof, place_of};
+ghost use Rattle.swc_walk.specs.Parts.{member_tree_is, name_tree_is, part_of_call_is, eval_tree_is, is_typeof, part_of, operand_of, stands_alone};
 ghost use Rattle.swc_walk.specs.Pass.{is_shallow};
 
 use crate::rules::Place;
@@ -106,14 +106,38 @@ pub fn is_named_typeof(op: UnaryOp, e: &Expr) -> bool
     }
 }
 
-/// Where the operand of an operator stands.
-pub fn operand_place(op: UnaryOp) -> Place
-    ensures { result ≡ place_of op }
+/// Where a part of an expression stands, by where the expression stands.
+pub fn part_place(place: Place) -> Place
+    ensures { result ≡ part_of place }
+{
+    match place {
+        Place::Callee | Place::Part => Place::Part,
+        Place::Value | Place::Statement | Place::TypeOf | Place::Delete => Place::Value,
+    }
+}
+
+/// Where the operand of an operator stands, by where the operator stands.
+pub fn operand_place(op: UnaryOp, place: Place) -> Place
+    ensures { result ≡ operand_of op place }
 {
     match op {
         UnaryOp::TypeOf => Place::TypeOf,
         UnaryOp::Delete => Place::Delete,
         UnaryOp::Minus | UnaryOp::Plus | UnaryOp::Bang | UnaryOp::Tilde | UnaryOp::Void =>
-            Place::Value,
+            part_place(place),
+    }
+}
+
+/// Whether an expression is a node of its own where it stands: a callee that is no member and not the name `eval`, an
+/// operand of `typeof` that is no name, or one of `delete` that is no member.
+#[tactic(auto, using(crate::proofs::NodeKinds::plain_is))]
+pub fn fits(place: Place, e: &Expr) -> bool
+    ensures { result ≡ stands_alone place (expr_tree e.now) }
+{
+    match place {
+        Place::Callee => is_plain(e),
+        Place::TypeOf => !is_name(e),
+        Place::Delete => !is_member(e),
+        Place::Value | Place::Statement | Place::Part => true,
     }
 }

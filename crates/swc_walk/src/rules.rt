@@ -1,15 +1,16 @@
 //! What a pass does at a node: before the node's children are walked, and behind that.
 ghost use Rattle.std.specs.Prelude.{◌≡◌, ◌≤◌, IfOk, IsFalse};
+ghost use Rattle.swc_ast.specs.Expressions.{param_tree};
 ghost use Rattle.swc_ast.specs.Modules.{item_tree};
 ghost use Rattle.swc_ast.specs.Views.{expr_tree, stmt_tree};
 ghost use Rattle.swc_ast.specs.declared.expressions.Expr.{size-Expr};
 ghost use Rattle.swc_ast.specs.declared.statements.Stmt.{size-Stmt};
 ghost use Rattle.swc_walk.specs.Pass.{Pass};
-ghost use Rattle.swc_walk.specs.Walks.{Became, Fits, Opened};
+ghost use Rattle.swc_walk.specs.Walks.{Became, Fits, Opened, Stepped};
 ghost use Rattle.swc_walk.specs.Lists.{ItemsBecame, ListBecame};
 
 use std::alloc::AllocError;
-use swc_ast::{Expr, ModuleItem, Stmt};
+use swc_ast::{Expr, ModuleItem, Pat, Stmt};
 
 /// Where an expression stands.
 #[derive(Clone, Copy, Debug, PartialEq, Eq)]
@@ -24,6 +25,9 @@ pub enum Place {
     TypeOf,
     /// The operand of `delete`.
     Delete,
+    /// A part of a callee, of a target, or of the operand of an update. Arguments, items of a sequence in front of the
+    /// last, functions and operands of `typeof` in such a part are values like others.
+    Part,
 }
 
 /// Where a list of statements stands.
@@ -77,6 +81,13 @@ pub trait Rules {
     fn leave_expr(&self, place: Place, e: &mut Expr) -> Result<bool, AllocError>
         ensures steps { IfOk result (λ changed. Became (pass self.now) changed (expr_tree e.old) (expr_tree e.new)) }
         ensures fits { IfOk result (λ changed. Fits place (expr_tree e.old) → Fits place (expr_tree e.new)) };
+
+    /// A parameter whose default is walked: it may lose it.
+    fn leave_param(&self, _p: &mut Pat) -> Result<bool, AllocError>
+        ensures { IfOk result (λ changed. Stepped (pass self.now) changed (param_tree expr_tree _p.old) (param_tree expr_tree _p.new)) }
+    {
+        Ok(false)
+    }
 
     /// A statement whose children are walked.
     fn leave_stmt(&self, s: &mut Stmt) -> Result<bool, AllocError>

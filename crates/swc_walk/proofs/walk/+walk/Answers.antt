@@ -1,8 +1,8 @@
 use Rattle.std.proofs.Common.{rules, refl, sym, ap, ◌∙◌, subst, false}
 use Rattle.swc_ast.proofs.Equations.{expr_tree-This, expr_tree-Ident, expr_tree-Lit, expr_tree-Invalid, prop_tree-Shorthand, stmt_tree-Empty, stmt_tree-Break, stmt_tree-Continue, function_trees-is, arrow_tree-is, if_tree-is, case_trees-is, loop_trees-is, for_tree-is}
-use Rattle.swc_walk.proofs.FunctionArms.{object_arm, fn_arm, arrow_arm, spread_arm, prop_arm, key_value_arm, method_arm, method_rolled, computed_key, assign_param, function_made, arrow_made, arrow_block, arrow_expr}
+use Rattle.swc_walk.proofs.FunctionArms.{object_arm, fn_arm, arrow_arm, spread_arm, prop_arm, key_value_arm, method_arm, method_rolled, computed_key, assign_param, param_unseen, function_made, arrow_made, arrow_block, arrow_expr}
 use Rattle.swc_walk.proofs.StatementArms.{option_some, option_none, list_then, block_arm, return_arm, labeled_arm, throw_arm, expr_stmt_arm, if_arm, switch_arm, for_arm, decl_arm, while_arm, do_while_arm, loop_made, try_arm, handler_made, no_handler, if_made, for_made, switch_rolled, case_made, declarator_made, var_made, fn_decl_arm, var_arm, init_var, init_expr}
-use Rattle.swc_walk.proofs.Walked.{walks_at, made_then, opened_then, opened_closed, placed_then, placed_opened, placed_closed, shallow_at, entered_at_shallow, unvisited_at, each_all, each_more}
+use Rattle.swc_walk.proofs.Walked.{walks_at, shortened, made_then, opened_then, opened_closed, placed_then, placed_opened, placed_closed, shallow_at, entered_at_shallow, unvisited_at, each_all, each_more}
 use Rattle.swc_walk.proofs.Arms.{bin_arm, cond_arm, unary_arm, update_arm, assign_arm, member_arm, call_arm, new_arm, seq_arm, tpl_arm, array_arm, member_parts}
 use Rattle.swc_walk.proofs.Targets.{shallow_lit, member_callee_at, plain_callee, kept_callee, plain_operand, kept_operand, member_target, name_target}
 use Rattle.swc_ast.specs.declared.expressions.AssignTarget.TheVariants as target
@@ -77,7 +77,7 @@ pub expressions::walk_operand-returns-then-is_named_typeof : goal.expressions::w
 expressions::walk_operand-returns-then-is_named_typeof g t c = let t = c.if-is_named_typeof.ensures.shallow refl in kept_operand _ _ (search rules) (search rules)
 
 pub expressions::walk_operand-returns : goal.expressions::walk_operand-returns
-expressions::walk_operand-returns g t c = plain_operand _ _ _ _ (search rules) (search rules)
+expressions::walk_operand-returns g t c = plain_operand c.args.place _ _ _ _ (search rules) (search rules)
 
 pub expressions::walk_member-returns : goal.expressions::walk_member-returns
 expressions::walk_member-returns g t c = member_parts c.args.n.now (record c.args.n.now { obj = c.walk_boxed.new.e; prop = c.walk_member_prop.new.p }) _ _ refl c.in_ok-object.ensures.0 c.in_ok-key.ensures
@@ -154,11 +154,14 @@ expressions::walk_method-returns g t c = method_rolled c.args.n.now c.walk_key.n
 pub expressions::walk_function-returns : goal.expressions::walk_function-returns
 expressions::walk_function-returns g t c = function_made _ c.args.n.now.params c.walk_params.new.ps c.args.n.now.body c.walk_body.new.n (function_trees-is _) (function_trees-is _) c.in_ok-params.ensures c.in_ok-body.ensures
 
-pub expressions::walk_param-returns-in-Ident : goal.expressions::walk_param-returns-in-Ident
-expressions::walk_param-returns-in-Ident g t c = unvisited_at _ (param_tree expr_tree) (ap (param_tree expr_tree) c.in-Ident.is) refl
+pub expressions::walk_param-returns : goal.expressions::walk_param-returns
+expressions::walk_param-returns g t c = shortened _ _ (param_unseen _) c.in_ok-inside.ensures c.in_ok-left.ensures
 
-pub expressions::walk_param-returns-in_ok-made-in-Assign : goal.expressions::walk_param-returns-in_ok-made-in-Assign
-expressions::walk_param-returns-in_ok-made-in-Assign g t c = assign_param _ _ c.in-Assign.n c.in-Assign.n c.walk_boxed.new.e c.in-Assign.is refl refl c.in_ok-made-in-Assign.ensures.0
+pub expressions::walk_default-returns-in-Ident : goal.expressions::walk_default-returns-in-Ident
+expressions::walk_default-returns-in-Ident g t c = shallow_at _ (param_tree expr_tree) (ap (param_tree expr_tree) c.in-Ident.is) refl
+
+pub expressions::walk_default-returns-in_ok-made-in-Assign : goal.expressions::walk_default-returns-in_ok-made-in-Assign
+expressions::walk_default-returns-in_ok-made-in-Assign g t c = assign_param _ _ c.in-Assign.n c.in-Assign.n c.walk_boxed.new.e c.in-Assign.is refl refl c.in_ok-made-in-Assign.ensures.0
 
 pub expressions::walk_arrow-returns : goal.expressions::walk_arrow-returns
 expressions::walk_arrow-returns g t c = arrow_made _ c.args.n.now.params c.walk_params.new.ps c.args.n.now.body c.walk_arrow_body.new.b (arrow_tree-is _) (arrow_tree-is _) c.in_ok-params.ensures c.in_ok-body.ensures

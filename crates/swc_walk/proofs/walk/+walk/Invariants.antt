@@ -70,10 +70,13 @@ abbrev pub decreases-expressions::walk_function : goal.decreases-expressions::wa
 decreases-expressions::walk_function g l = 16 * goal.size-expressions::walk_function g l
 
 abbrev pub decreases-expressions::walk_params : goal.decreases-expressions::walk_params
-decreases-expressions::walk_params g l = 16 * goal.size-expressions::walk_params g l + 4
+decreases-expressions::walk_params g l = 16 * goal.size-expressions::walk_params g l + 5
 
 abbrev pub decreases-expressions::walk_param : goal.decreases-expressions::walk_param
-decreases-expressions::walk_param g l = 16 * goal.size-expressions::walk_param g l + 3
+decreases-expressions::walk_param g l = 16 * goal.size-expressions::walk_param g l + 4
+
+abbrev pub decreases-expressions::walk_default : goal.decreases-expressions::walk_default
+decreases-expressions::walk_default g l = 16 * goal.size-expressions::walk_default g l + 3
 
 abbrev pub decreases-expressions::walk_arrow : goal.decreases-expressions::walk_arrow
 decreases-expressions::walk_arrow g l = 16 * goal.size-expressions::walk_arrow g l

@@ -1,0 +1,12 @@
+pub mod Values
+pub mod Leaves
+pub mod Arithmetic
+pub mod Comparisons
+pub mod Equality
+pub mod Choices
+pub mod Sequences
+pub mod Members
+pub mod Spreads
+pub mod Defaults
+pub mod ExprSteps
+pub mod Replaced

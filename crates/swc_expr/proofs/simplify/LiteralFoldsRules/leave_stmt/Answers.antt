@@ -1,6 +1,0 @@
-use Rattle.std.proofs.Common.{refl}
-use Rattle.swc_expr.proofs.Statements.{stmt_rests}
-use Rattle.swc_expr.proofs.simplify.LiteralFoldsRules.leave_stmt.Goals as goal
-
-pub returns : goal.returns
-returns c = (refl, stmt_rests _)

@@ -1,5 +1,0 @@
-use Rattle.swc_expr.proofs.FoldSteps.{delete_label}
-use Rattle.swc_expr.proofs.simplify.is_delete.Goals as goal
-
-pub returns-in-Delete : goal.returns-in-Delete
-returns-in-Delete c = λ h. delete_label c.in-Unary.n _ c.in-Unary.is c.in-Delete.is
