@@ -14,24 +14,16 @@ use Rattle.swc_utils.specs.Pure.{has_spread, pure, pure_all}
 use Rattle.swc_utils.specs.Known.{truth, number, text}
 use Rattle.swc_utils.specs.declared.answers.ValueType.TheVariants.{Str as TextType}
 use Rattle.swc_utils.specs.Types.{type_of, is_text_type}
-use Rattle.expr_rules.specs.Values.{typeof_known}
 use Rattle.swc_utils.specs.Globals.{name_value}
 use Rattle.swc_utils.specs.Effects.{effects, effects_all, preserve}
+use Rattle.expr_rules.specs.Values.{typeof_known}
 use Rattle.expr_rules.specs.Equality.{is_equality, equal_known, tells}
-use Rattle.expr_rules.specs.Leaves.{text_tree, void_tree}
-use Rattle.expr_rules.specs.Arithmetic.{admits, fold_texts, fold_sum}
-use Rattle.expr_rules.specs.Choices.{chosen_arm}
-use Rattle.expr_rules.specs.Members.{length_of}
-use Rattle.expr_rules.specs.Comparisons.{compares, is_comparison}
-use Rattle.expr_rules.specs.Members.{text_at, array_at, value_named}
-use Rattle.expr_rules.specs.Leaves.{guarded, key_text_of}
-use Rattle.expr_rules.specs.Arithmetic.{regroups}
-use Rattle.expr_rules.specs.Leaves.{number_tree, truth_tree}
-use Rattle.expr_rules.specs.Arithmetic.{fold_numbers}
-use Rattle.expr_rules.specs.Choices.{is_logical, chosen_side}
-use Rattle.expr_rules.specs.Comparisons.{beside_itself, text_beside_itself}
+use Rattle.expr_rules.specs.Leaves.{text_tree, void_tree, guarded, key_text_of, number_tree, truth_tree, as_sequence}
+use Rattle.expr_rules.specs.Arithmetic.{admits, fold_texts, fold_sum, regroups, fold_numbers}
+use Rattle.expr_rules.specs.Choices.{chosen_arm, is_logical, chosen_side}
+use Rattle.expr_rules.specs.Members.{length_of, text_at, array_at, value_named}
+use Rattle.expr_rules.specs.Comparisons.{compares, is_comparison, beside_itself, text_beside_itself}
 use Rattle.expr_rules.specs.Sequences.{front_folded, some_folds}
-use Rattle.expr_rules.specs.Leaves.{as_sequence}
 use Rattle.expr_rules.specs.Spreads.{opened_kinds, opened_items, opened_properties, spreads_array, spreads_object}
 
 -- `o.k`, or `o[key]` where the key is a literal of text k

@@ -1,7 +1,7 @@
 -- What a fold answers, and the nodes that none of them leaves.
 use Rattle.std.specs.Prelude.{ℕ, ◌≡◌, Bool, false, Option, Some, None}
 use Rattle.swc_ast.specs.declared.expressions.Expr.{Expr}
-use Rattle.swc_ast.specs.Tree.{Label, Unary, Binary, Cond, Tree, node, Forest, ε, ◌⊳◌}
+use Rattle.swc_ast.specs.Tree.{Label, Unary, Binary, Cond, Tree, Forest, ε, ◌⊳◌}
 use Rattle.swc_ast.specs.Redex.{unary_redex, binary_redex, is_simple_literal}
 use Rattle.swc_ast.specs.Views.{expr_tree}
 use Rattle.expr_rules.specs.ExprSteps.{ExprStep}

@@ -1,5 +1,5 @@
-pub mod Defaults
 pub mod Resting
 pub mod Shields
 pub mod Statements
+pub mod Views
 pub mod SimplifyLaw

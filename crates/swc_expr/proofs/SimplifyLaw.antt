@@ -4,7 +4,7 @@ use Rattle.std.proofs.lemmas.Bool.{false≢true, true≢false}
 use Rattle.swc_ast.specs.declared.UnaryOp.TheVariants.{Delete}
 use Rattle.swc_ast.specs.Redex.{is_delete}
 use Rattle.swc_ast.specs.Run.{Same}
-use Rattle.swc_ast.specs.Tree.{Name, Label, Unary, Binary, Cond, Tree, node, Forest, bare}
+use Rattle.swc_ast.specs.Tree.{Name, Label, Unary, Binary, Cond, Tree, node, Forest, bare, ε, ◌⊳◌}
 use Rattle.swc_ast.specs.Weight.{weight}
 use Rattle.swc_static.specs.Free.{kind_at, has_kind}
 use Rattle.swc_static.specs.Names.{label_of}
@@ -13,8 +13,6 @@ use Rattle.swc_static.proofs.Bare.{weight_bare}
 use Rattle.swc_static.proofs.Free.{delete_free}
 use Rattle.swc_static.proofs.Kept.{walk_keeps}
 use Rattle.swc_static.proofs.Walked.{leaves_walks}
-use Rattle.static_expr.specs.Folds as static
-use Rattle.static_expr.proofs.Folds.{fold_step}
 use Rattle.swc_walk.specs.Pass.{is_visited}
 use Rattle.swc_walk.specs.Walks.{Whole}
 use Rattle.swc_walk.proofs.Walked.{whole_same}
@@ -25,17 +23,17 @@ use Rattle.swc_kept.proofs.Plain.{right_same}
 use Rattle.swc_kept.proofs.Static.{whole_resolved, whole_core, whole_falls, whole_free}
 use Rattle.swc_pass.specs.Pass.{SameBare, TellsChange}
 use Rattle.expr_rules.specs.Replaced.{expr_redex}
+use Rattle.expr_steps.proofs.Defaults.{void_is_undefined}
+use Rattle.expr_steps.proofs.DefaultsOwe.{default_owes}
 use Rattle.expr_steps.proofs.ExprSteps.{step_exact}
-use Rattle.expr_steps.proofs.Owed.{step_owes}
-use Rattle.expr_steps.proofs.Fitting.{step_fits, step_no_item}
+use Rattle.expr_steps.proofs.Owes.{step_owes, step_fits, step_no_item}
 use Rattle.swc_expr.specs.Simplifies.{Simplifies, folds, default_goes, simplify_pass}
 use Rattle.swc_expr.specs.Simplified.{Simplified}
-use Rattle.swc_expr.proofs.Defaults.{void_is_undefined}
 
 -- what the steps do
 
 step_right : (mark : ℕ) (t u : Tree) → Simplifies mark t u → NodeRight mark t u
-step_right mark t u (folds s) = does_same (step_exact s) (step_fits s) (step_no_item s)
+step_right mark t u (folds e s) = does_same (step_exact s) (step_fits e s) (step_no_item s)
 step_right mark t u (default_goes {d = d} h) = undefined_goes (void_is_undefined mark d h)
 
 simplify_right : (mark : ℕ) → PlainRight (simplify_pass mark) mark
@@ -52,8 +50,8 @@ simplify_right mark = record {
 -- what the steps owe
 
 simplifies_owe : {mark : ℕ} {P : Name → Type 0} {t u : Tree} → Simplifies mark t u → Step ⊥ P t u
-simplifies_owe (folds s) = step_owes s
-simplifies_owe {mark} (default_goes {x = x} {ss = ss} {rs = rs} {d = d} h) = fold_step mark _ _ (static.default_gone {x = x} {ss = ss} {rs = rs} {d = d})
+simplifies_owe (folds e s) = step_owes e s
+simplifies_owe {mark} (default_goes {x = x} {ss = ss} {rs = rs} {d = d} h) = default_owes x ss rs d
 
 owes : {mark : ℕ} {P : Name → Type 0} (t u : Tree) → Does (simplify_pass mark) t u → Step ⊥ P t u
 owes t u (at_front s) = absurd s

@@ -2,14 +2,19 @@
 use Rattle.std.specs.Prelude.{Bool, false, not, ◌&&◌, if◌then◌else◌, [], ◌∷◌}
 use Rattle.swc_ast.specs.declared.Span.{Span}
 use Rattle.swc_ast.specs.Redex.{is_zero}
-use Rattle.swc_ast.specs.Tree.{Seq, Tree, node, ε, ◌⊳◌}
+use Rattle.swc_ast.specs.Tree.{Seq, Tree, node, Forest, ε, ◌⊳◌}
 use Rattle.swc_walk.specs.Parts.{stands_alone}
 use Rattle.swc_walk.specs.declared.rules.Place.{Place}
 use Rattle.expr_rules.specs.Leaves.{guarded}
 
+-- the literal 0, and what would mean something else by itself
+abbrev pub is_shielding : Place → Forest → Bool
+is_shielding p (a ⊳ b ⊳ ε) = is_zero a && not (stands_alone p b)
+is_shielding p ts = false
+
 -- `(0, e)`, where e would mean something else by itself
 abbrev pub is_shield : Place → Tree → Bool
-is_shield p (node Seq ss (a ⊳ b ⊳ ε)) = is_zero a && not (stands_alone p b)
+is_shield p (node Seq ss ts) = is_shielding p ts
 is_shield p t = false
 
 -- the span of what stands nowhere in the text

@@ -1,9 +1,5 @@
 //! The expression simplifier: operators, conditions, sequences, spreads and members of what is known become what they give.
 #![tactic(auto)]
 
-mod defaults;
-mod places;
-mod rules;
-mod simplify;
-
-pub use simplify::{Config, SimplifyExpr, expr_simplifier};
+pub mod defaults;
+pub mod places;

@@ -1,6 +1,7 @@
 //! Places where a member or a name would mean something else than an expression of its value: a call of a member hands on
 //! its object, a call of `eval` is direct, and `typeof` of a name doesn't throw.
 ghost use Rattle.std.specs.Prelude.{◌≡◌, IfOk};
+ghost use Rattle.swc_ast.specs.Parts.{list_trees};
 ghost use Rattle.swc_ast.specs.Redex as redex;
 ghost use Rattle.swc_ast.specs.Views.{expr_tree};
 ghost use Rattle.swc_expr.specs.Places as places;
@@ -13,7 +14,7 @@ use swc_walk::{Place, fits};
 const NOWHERE: Span = Span { lo: 0, hi: 0 };
 
 /// Whether an expression is the literal 0.
-#[tactic(auto, using(swc_ast::proofs::Equations::forms, crate::proofs::Shields::zero_nodes))]
+#[tactic(auto, using(swc_ast::proofs::Equations::forms))]
 fn is_zero(e: &Expr) -> bool
     ensures { result ≡ redex.is_zero (expr_tree e.now) }
 {
@@ -26,16 +27,23 @@ fn is_zero(e: &Expr) -> bool
     }
 }
 
+/// Whether the items of a sequence are 0 and what would mean something else by itself.
+fn is_shielding(place: Place, exprs: &[Expr]) -> bool
+    ensures { result ≡ places.is_shielding place (list_trees expr_tree exprs.now) }
+{
+    match exprs {
+        [front, last] => is_zero(front) && !fits(place, last),
+        _ => false,
+    }
+}
+
 /// Whether an expression is `(0, e)`, where e would mean something else by itself.
-#[tactic(auto, using(swc_ast::proofs::Equations::forms, crate::proofs::Shields::shield_nodes))]
+#[tactic(auto, using(swc_ast::proofs::Equations::forms))]
 pub(crate) fn is_shield(place: Place, e: &Expr) -> bool
     ensures { result ≡ places.is_shield place (expr_tree e.now) }
 {
     match e {
-        Expr::Seq(n) => match n.exprs.as_slice() {
-            [front, last] => is_zero(front) && !fits(place, last),
-            _ => false,
-        },
+        Expr::Seq(n) => is_shielding(place, &n.exprs),
         _ => false,
     }
 }
@@ -48,15 +56,7 @@ pub(crate) fn shielded(alloc: Global, place: Place, e: Expr) -> Result<Expr, All
     if fits(place, &e) {
         return Ok(e);
     }
-    let zero = Number {
-        span: NOWHERE,
-        value: 0,
-    };
-    let mut exprs = Vec::new(alloc);
-    exprs.push(Expr::Lit(Lit::Num(zero)))?;
-    exprs.push(e)?;
-    Ok(Expr::Seq(SeqExpr {
-        span: NOWHERE,
-        exprs,
-    }))
+    let zero = Expr::Lit(Lit::Num(Number { span: NOWHERE, value: 0 }));
+    let exprs = vec![in alloc; zero, e]?;
+    Ok(Expr::Seq(SeqExpr { span: NOWHERE, exprs }))
 }

@@ -24,16 +24,16 @@ no_item_of : {N : Names} {t u : Tree} → Fits N t u → is_item (label t) ≡ f
 no_item_of unchanged i = i
 no_item_of {u = u} (changed p q s) i = part_imports_none (label u) q
 
-right_step : {X : Pass} {mark : ℕ} {t u : Tree} → NodeRight mark t u → NodeStep no_names mark (plain_steps mark X) t u
-right_step (does_same e f i) = alone i (no_item_of f i) (moved (e, f))
-right_step (default_goes y) = of_default y
+right_step : (X : Pass) {mark : ℕ} {t u : Tree} → NodeRight mark t u → NodeStep no_names mark (plain_steps mark X) t u
+right_step X (does_same e f i) = alone i (no_item_of f i) (moved (e, f))
+right_step X (default_goes y) = of_default y
 
 plain_meant : {X : Pass} {mark : ℕ} → PlainRight X mark → (loads : Bool) → Meant X no_names mark loads (plain_steps mark X)
 plain_meant {X} {mark} p loads = record {
   open_step = λ t u s. s;
   open_no_item = λ t u s. no_item_of (p.open_fits t u s) (p.open_no_item t u s);
   open_clean = λ t u s k. living_clean (none_dead mark) u (no_dead u);
-  node_step = λ t u s. right_step (p.node_right t u s);
+  node_step = λ t u s. right_step X (p.node_right t u s);
   list_step = λ l ts us i s. sifts_then (sifts_itself (λ t. ⊥) ts) (moved_list l s);
   items_step = λ ts us s. items_then (sifts_itself _ ts) (moved_list Module s) (p.items_stay ts us s);
   unused_goes = λ t u. u;

@@ -1,0 +1,82 @@
+-- What is proved of each rewrite of a node of an expression.
+use Rattle.std.specs.Fmt.{decimal}
+use Rattle.std.specs.Prelude.{ℕ, Bool, true, false, ◌<◌, ◌-◌, ◌^◌, ◌≡◌, List, Some}
+use Rattle.swc_ast.specs.declared.Span.{Span}
+use Rattle.swc_ast.specs.declared.expressions.Expr.{Expr}
+use Rattle.swc_ast.specs.declared.UnaryOp.{UnaryOp}
+use Rattle.swc_ast.specs.declared.BinaryOp.{BinaryOp}
+use Rattle.swc_ast.specs.Tree.{Name, Label, Param, Read, Unary, Binary, Cond, Seq, Dot, Index, Tree, node, Forest, ε, ◌⊳◌}
+use Rattle.swc_ast.specs.Redex.{is_zero, is_simple_literal, binary_redex, unary_redex}
+use Rattle.swc_ast.specs.Operators.{index_of}
+use Rattle.swc_ast.specs.Views.{expr_tree}
+use Rattle.swc_ast.specs.Weight.{weight}
+use Rattle.swc_meaning.specs.Exact.{Exact, GivesUndefined}
+use Rattle.swc_meaning.specs.Roles.{Fits, label, is_item}
+use Rattle.swc_meaning.specs.Walks.{no_names}
+use Rattle.swc_static.specs.Drawn.{is_expression}
+use Rattle.swc_static.specs.Step.{Step}
+use Rattle.expr_rules.specs.Defaults.{is_void}
+use Rattle.expr_rules.specs.ExprSteps.{ExprStep}
+use Rattle.expr_rules.specs.Leaves.{guarded}
+
+-- what takes a node's place means exactly what the node means
+abbrev pub StepsAreExact : Type 0
+StepsAreExact = (mark : ℕ) (t u : Tree) → ExprStep mark t u → Exact mark t u
+
+-- the tree of an expression has an expression's label
+abbrev pub TreesAreExpressions : Type 0
+TreesAreExpressions = (e : Expr) → is_expression (label (expr_tree e)) ≡ true
+
+-- An expression that takes a node's place keeps and spares what a pass may not touch, and is lighter: whether statements may
+-- stop in the pass or not, and whatever names it may not drop.
+abbrev pub StepsOwe : Type 0
+StepsOwe = (mark : ℕ) (n : Bool) (p : Name → Bool) (t u : Tree) → is_expression (label u) ≡ true → ExprStep mark t u → Step (n ≡ true) (λ x. p x ≡ true) t u
+
+-- it declares what the node declares, which is nothing
+abbrev pub StepsFit : Type 0
+StepsFit = (mark : ℕ) (t u : Tree) → is_expression (label u) ≡ true → ExprStep mark t u → Fits no_names t u
+
+-- no import and no export is rewritten
+abbrev pub StepsPassItems : Type 0
+StepsPassItems = (mark : ℕ) (t u : Tree) → ExprStep mark t u → is_item (label t) ≡ false
+
+-- a member or a name: what means something else as a callee, or as an operand of `typeof` or `delete`
+abbrev pub is_member_or_name : Label → Bool
+is_member_or_name (Dot k) = true
+is_member_or_name Index = true
+is_member_or_name (Read x) = true
+is_member_or_name _ = false
+
+-- `(0, e)`
+abbrev pub is_guarded : Tree → Bool
+is_guarded (node Seq ss (z ⊳ t ⊳ ε)) = is_zero z
+is_guarded _ = false
+
+-- where a member or a name takes the place of a node that is not `(0, e)`, there is room for `0,` in front of it
+abbrev pub StepsAreRoomy : Type 0
+StepsAreRoomy = (mark : ℕ) (t u : Tree) → ExprStep mark t u → is_member_or_name (label u) ≡ true → is_guarded t ≡ false → (rs zs : List Span) → weight (guarded rs zs u) < weight t
+
+-- some rule replaces the node
+abbrev pub HasStep : ℕ → Tree → Type 0
+HasStep mark t = (u : Tree) × ExprStep mark t u
+
+-- so it is of each operator and each condition on literals that tell what it gives
+pub record RedexesStep (mark : ℕ) (ss : List Span) : Type 0 where
+  pub binary : (op : BinaryOp) (a b : Tree) → binary_redex op a b ≡ true → HasStep mark (node (Binary op) ss (a ⊳ b ⊳ ε))
+  pub unary : (op : UnaryOp) (a : Tree) → unary_redex op a ≡ true → HasStep mark (node (Unary op) ss (a ⊳ ε))
+  pub condition : (t a b : Tree) → is_simple_literal t ≡ true → HasStep mark (node Cond ss (t ⊳ a ⊳ b ⊳ ε))
+
+abbrev pub RedexesHaveSteps : Type 0
+RedexesHaveSteps = (mark : ℕ) (ss : List Span) → RedexesStep mark ss
+
+-- a default that is `undefined`, or `void` of what is pure, gives undefined and does nothing else
+abbrev pub VoidsAreUndefined : Type 0
+VoidsAreUndefined = (mark : ℕ) (t : Tree) → is_void mark t ≡ true → GivesUndefined mark t
+
+-- a parameter without its default keeps and spares what a pass may not touch, and is lighter
+abbrev pub DefaultsOwe : Type 0
+DefaultsOwe = (n : Bool) (p : Name → Bool) (x : Name) (ss rs : List Span) (t : Tree) → Step (n ≡ true) (λ y. p y ≡ true) (node (Param x) ss (t ⊳ ε)) (node (Param x) rs ε)
+
+-- the decimal text of a number that may be an index is that index
+abbrev pub DecimalIsIndex : Type 0
+DecimalIsIndex = (n : ℕ) → n < 2 ^ 32 - 1 → index_of (decimal n) ≡ Some n

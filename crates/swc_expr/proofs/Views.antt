@@ -1,0 +1,129 @@
+-- What a view of an expression is not, by the expression's form.
+use Rattle.std.proofs.Common.{◌≡◌, ◌<◌, ◌≤◌, ℕ, pos, zero, Bool, true, false, not, if◌then◌else◌, refl, sym, ap, ◌∙◌, ◌==◌, subst, List, length, ◌∷◌, [], arith}
+use Rattle.std.proofs.lemmas.Bool.{false≢true, true≢false}
+use Rattle.swc_ast.specs.Expressions.{unary_node, unary_tree, param_tree}
+use Rattle.swc_ast.specs.Parts.{leaf, ident_name, list_trees}
+use Rattle.swc_ast.specs.Redex.{is_zero}
+use Rattle.swc_ast.specs.Tree as tree
+use Rattle.swc_ast.specs.Tree.{Tree, node, ε, ◌⊳◌}
+use Rattle.swc_ast.specs.Views.{expr_tree}
+use Rattle.swc_ast.specs.declared.Span.{Span}
+use Rattle.swc_ast.specs.declared.UnaryOp.{UnaryOp}
+use Rattle.swc_ast.specs.declared.UnaryOp.TheVariants as op
+use Rattle.swc_ast.specs.declared.declarations.AssignPat.{AssignPat}
+use Rattle.swc_ast.specs.declared.declarations.Decl.TheOpen as Open
+use Rattle.swc_ast.specs.declared.declarations.Decl.TheViews.{roll-Expr, out-Expr, roll-out-Expr}
+use Rattle.swc_ast.specs.declared.declarations.Pat.{Pat}
+use Rattle.swc_ast.specs.declared.declarations.Pat.TheVariants as pat
+use Rattle.swc_ast.specs.declared.expressions.Expr.{Expr}
+use Rattle.swc_ast.specs.declared.expressions.Expr.TheVariants as in_expr
+use Rattle.swc_ast.specs.declared.expressions.UnaryExpr.{UnaryExpr}
+use Rattle.swc_ast.specs.declared.expressions.SeqExpr.{SeqExpr}
+use Rattle.swc_ast.specs.declared.literals.Lit.TheVariants as lit
+use Rattle.swc_ast.specs.declared.names.Ident.{Ident}
+use Rattle.swc_ast.proofs.ApartExpressions.{expr_form, ExprForm, expr_number, expr_at}
+use Rattle.swc_ast.proofs.Equations.{expr_tree-Unary, expr_tree-Seq, expr_tree-Lit}
+use Rattle.swc_static.specs.Names.{label_of}
+use Rattle.swc_utils.specs.Globals.{is_undefined}
+use Rattle.swc_utils.specs.Pure.{pure}
+use Rattle.swc_walk.specs.Parts.{stands_alone}
+use Rattle.swc_walk.specs.declared.rules.Place.{Place}
+use Rattle.expr_rules.specs.Defaults.{is_void}
+use Rattle.expr_rules.specs.Leaves.{guarded}
+use Rattle.swc_expr.specs.Places.{is_shielding, is_shield, nowhere, shielded}
+use Rattle.swc_expr.specs.Simplifies.{Simplifies, default_goes}
+
+form_of : (p : ExprForm) (e : Expr) → roll-Expr p ≡ e → expr_form (label_of (expr_tree e)) ≡ expr_number p
+form_of p e r = ap (λ x. expr_form (label_of (expr_tree x))) (sym r) ∙ expr_at p
+
+-- no literal is 0 but a literal
+
+no_zero : (t : Tree) (n : ℕ) → expr_form (label_of t) ≡ n → (n == 15) ≡ false → false ≡ is_zero t
+no_zero (node (tree.NumLit z) ss cs) n h k = absurd (true≢false (ap (λ m. m == 15) h ∙ k))
+no_zero (node l ss cs) n h k = refl
+
+pub other_zero : (e : Expr) → ((n : _) → e ≡ in_expr.Lit n → ⊥) → false ≡ is_zero (expr_tree e)
+other_zero e others = by (out-Expr e) (roll-out-Expr e)
+  where
+    by : (p : ExprForm) → roll-Expr p ≡ e → false ≡ is_zero (expr_tree e)
+    by (Open.Lit n) r = absurd (others n (sym r ∙ in_expr.rolls-Lit n))
+    by p r = no_zero (expr_tree e) (expr_number p) (form_of p e r) refl
+
+-- no `(0, e)` but a sequence
+
+no_shield : (q : Place) (t : Tree) (n : ℕ) → expr_form (label_of t) ≡ n → (n == 13) ≡ false → false ≡ is_shield q t
+no_shield q (node tree.Seq ss cs) n h k = absurd (true≢false (ap (λ m. m == 13) h ∙ k))
+no_shield q (node l ss cs) n h k = refl
+
+pub other_shield : (q : Place) (e : Expr) → ((n : _) → e ≡ in_expr.Seq n → ⊥) → false ≡ is_shield q (expr_tree e)
+other_shield q e others = by (out-Expr e) (roll-out-Expr e)
+  where
+    by : (p : ExprForm) → roll-Expr p ≡ e → false ≡ is_shield q (expr_tree e)
+    by (Open.Seq n) r = absurd (others n (sym r ∙ in_expr.rolls-Seq n))
+    by p r = no_shield q (expr_tree e) (expr_number p) (form_of p e r) refl
+
+-- `void` and no other operator
+
+no_void : (mark : ℕ) (t : Tree) (n : ℕ) → expr_form (label_of t) ≡ n → (n == 5) ≡ false → is_undefined mark t ≡ is_void mark t
+no_void mark (node (tree.Unary o) ss cs) n h k = absurd (true≢false (ap (λ m. m == 5) h ∙ k))
+no_void mark (node l ss cs) n h k = refl
+
+pub other_void : (mark : ℕ) (e : Expr) → ((n : _) → e ≡ in_expr.Unary n → ⊥) → is_undefined mark (expr_tree e) ≡ is_void mark (expr_tree e)
+other_void mark e others = by (out-Expr e) (roll-out-Expr e)
+  where
+    by : (p : ExprForm) → roll-Expr p ≡ e → is_undefined mark (expr_tree e) ≡ is_void mark (expr_tree e)
+    by (Open.Unary n) r = absurd (others n (sym r ∙ in_expr.rolls-Unary n))
+    by p r = no_void mark (expr_tree e) (expr_number p) (form_of p e r) refl
+
+void_is : (mark : ℕ) (s : Span) (t : Tree) → is_void mark (unary_node op.Void s t) ≡ pure mark t
+unfolding unary_node
+void_is mark s t = refl
+
+void_of : (mark : ℕ) (o : UnaryOp) (s : Span) (t : Tree) → o ≡ op.Void → is_void mark (unary_node o s t) ≡ pure mark t
+void_of mark o s t h = ap (λ k. is_void mark (unary_node k s t)) h ∙ void_is mark s t
+
+double : (b : Bool) → not (not b) ≡ b
+double true = refl
+double false = refl
+
+pub void_at : (mark : ℕ) (e : Expr) (n : UnaryExpr Expr) (b : Bool) → e ≡ in_expr.Unary n → n.op ≡ op.Void → b ≡ not (pure mark (expr_tree n.arg.value)) → not b ≡ is_void mark (expr_tree e)
+void_at mark e n b is h k = ap not k ∙ double (pure mark (expr_tree n.arg.value)) ∙ sym (ap (λ x. is_void mark (expr_tree x)) is ∙ ap (is_void mark) (expr_tree-Unary n) ∙ void_of mark n.op n.span (expr_tree n.arg.value) h)
+
+other_operator : (mark : ℕ) (o : UnaryOp) (s : Span) (t : Tree) → (o ≡ op.Void → ⊥) → is_void mark (unary_node o s t) ≡ false
+unfolding unary_node
+other_operator mark op.Void s t h = absurd (h refl)
+other_operator mark op.TypeOf s (node (tree.Read x) ss cs) h = refl
+other_operator mark op.TypeOf s (node l ss cs) h = refl
+other_operator mark op.Minus s t h = refl
+other_operator mark op.Plus s t h = refl
+other_operator mark op.Bang s t h = refl
+other_operator mark op.Tilde s t h = refl
+other_operator mark op.Delete s t h = refl
+
+pub void_not_at : (mark : ℕ) (e : Expr) (n : UnaryExpr Expr) → e ≡ in_expr.Unary n → (n.op ≡ op.Void → ⊥) → false ≡ is_void mark (expr_tree e)
+void_not_at mark e n is h = sym (ap (λ x. is_void mark (expr_tree x)) is ∙ ap (is_void mark) (expr_tree-Unary n) ∙ other_operator mark n.op n.span (expr_tree n.arg.value) h)
+
+-- a parameter without its default
+pub without_default : (mark : ℕ) (p : Pat Expr) (n : AssignPat Expr) (x : Ident) → p ≡ pat.Assign n → x ≡ n.left → is_void mark (expr_tree n.right.value) ≡ true → Simplifies mark (param_tree expr_tree p) (leaf (tree.Param (ident_name x)) x.span)
+without_default mark p n x is same h = subst (λ q. Simplifies mark (param_tree expr_tree q) (leaf (tree.Param (ident_name x)) x.span)) (sym is) (subst (λ y. Simplifies mark (param_tree expr_tree (pat.Assign n)) (leaf (tree.Param (ident_name y)) y.span)) (sym same) (default_goes h))
+
+-- a sequence of two items alone shields
+pub short_list : (p : Place) (xs : List Expr) → length xs < 2 → false ≡ is_shielding p (list_trees expr_tree xs)
+short_list p [] h = refl
+short_list p (x ∷ []) h = refl
+short_list p (x ∷ y ∷ xs) h = absurd (omega (arith, h))
+
+pub long_list : (p : Place) (xs : List Expr) → 3 ≤ length xs → false ≡ is_shielding p (list_trees expr_tree xs)
+long_list p [] h = absurd (omega (arith, h))
+long_list p (x ∷ []) h = absurd (omega (arith, h))
+long_list p (x ∷ y ∷ []) h = absurd (omega (arith, h))
+long_list p (x ∷ y ∷ z ∷ xs) h = refl
+
+-- `(0, e)`
+pub shielded_at : (p : Place) (e : Expr) (n : SeqExpr Expr) → stands_alone p (expr_tree e) ≡ false → n.span ≡ nowhere → n.exprs.items ≡ in_expr.Lit (lit.Num (record { span = nowhere; value = pos zero })) ∷ e ∷ [] → expr_tree (in_expr.Seq n) ≡ shielded p (expr_tree e)
+shielded_at p e n h s items =
+    expr_tree-Seq n
+    ∙ ap (λ r. node tree.Seq (r ∷ []) (list_trees expr_tree n.exprs.items)) s
+    ∙ ap (λ xs. node tree.Seq (nowhere ∷ []) (list_trees expr_tree xs)) items
+    ∙ ap (λ z. node tree.Seq (nowhere ∷ []) (z ⊳ expr_tree e ⊳ ε)) (expr_tree-Lit (lit.Num (record { span = nowhere; value = pos zero })))
+    ∙ sym (ap (λ b. if b then expr_tree e else guarded (nowhere ∷ []) (nowhere ∷ []) (expr_tree e)) h)
