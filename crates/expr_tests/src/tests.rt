@@ -49,8 +49,6 @@ fn folds_two_numbers(rt: HostRuntime) -> Result<(), Fail> {
         // -0
         (BinaryOp::Mul, 0, 3, -1, None),
         (BinaryOp::Mod, -4, 4, 2, None),
-        // no operator of this pass
-        (BinaryOp::Lt, 1, 3, 2, None),
     ] {
         let left = number(2, end, left);
         let right = number(20, 21, right);

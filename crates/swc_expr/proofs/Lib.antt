@@ -1,5 +1,6 @@
 pub mod Resting
+pub mod Folded
+pub mod Views
 pub mod Shields
 pub mod Statements
-pub mod Views
 pub mod SimplifyLaw

@@ -1,10 +1,12 @@
 -- What stands for a member or a name where it may not stand alone.
-use Rattle.std.proofs.Common.{◌≡◌, ℕ, Bool, true, false, ◌&&◌, not, if◌then◌else◌, List, [], ◌∷◌, refl, sym, ap, ◌∙◌, pos, zero}
+use Rattle.std.proofs.Common.{◌≡◌, ℕ, Bool, true, false, ◌&&◌, not, if◌then◌else◌, List, [], ◌∷◌, refl, sym, ap, ◌∙◌, subst, pos, zero, Option, Some}
 use Rattle.std.proofs.lemmas.Bool.{false≢true, true≢false}
 use Rattle.swc_ast.specs.Tree as tree
 use Rattle.swc_ast.specs.Tree.{Name, Seq, Label, Tree, node, Forest, ε, ◌⊳◌}
 use Rattle.swc_ast.specs.Redex.{is_zero}
+use Rattle.swc_ast.specs.Views.{expr_tree}
 use Rattle.swc_ast.specs.Weight.{weight}
+use Rattle.swc_ast.specs.declared.expressions.Expr.{Expr}
 use Rattle.swc_ast.specs.declared.Span.{Span}
 use Rattle.swc_static.specs.Free.{kind_at}
 use Rattle.swc_walk.specs.Parts.{stands_alone}
@@ -19,7 +21,9 @@ use Rattle.expr_rules.specs.Leaves.{guarded}
 use Rattle.expr_steps.specs.Laws.{is_guarded, is_member_or_name}
 use Rattle.expr_steps.proofs.Roomy.{guarded_lighter}
 use Rattle.swc_expr.specs.Places.{is_shielding, is_shield, nowhere, shielded}
-use Rattle.swc_expr.specs.Simplifies.{Rests}
+use Rattle.expr_rules.specs.Replaced.{Replaced}
+use Rattle.expr_steps.proofs.ExprTrees.{is_an_expression}
+use Rattle.swc_expr.specs.Simplifies.{Rests, Simplifies, folds}
 
 -- a sequence rests
 pub shield_rests : (p : Place) (t : Tree) → is_shield p t ≡ true → Rests t
@@ -75,3 +79,7 @@ shielded_fits p u = by_place (stands_alone p u) refl
     by_place : (b : Bool) → stands_alone p u ≡ b → Fits p (if b then u else guarded (nowhere ∷ []) (nowhere ∷ []) u)
     by_place true e = alone_fits p u e
     by_place false e = alone_fits p (guarded (nowhere ∷ []) (nowhere ∷ []) u) (sequence_alone p _ _)
+
+-- what a fold answers, in an expression's place
+pub folded_at : (mark : ℕ) (p : Place) (t v : Tree) (o : Option Expr) (u w : Expr) → is_shield p t ≡ false → o ≡ Some u → Replaced mark t v o → expr_tree w ≡ shielded p (expr_tree u) → Simplifies mark t (expr_tree w)
+folded_at mark p t v o u w h is r e = folds (is_an_expression w) (subst (ExprStep mark t) (sym e) (shield_step mark p t (expr_tree u) h (subst (Replaced mark t v) is r)))

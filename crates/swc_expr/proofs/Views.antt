@@ -3,7 +3,7 @@ use Rattle.std.proofs.Common.{◌≡◌, ◌<◌, ◌≤◌, ℕ, pos, zero, Boo
 use Rattle.std.proofs.lemmas.Bool.{false≢true, true≢false}
 use Rattle.swc_ast.specs.Expressions.{unary_node, unary_tree, param_tree}
 use Rattle.swc_ast.specs.Parts.{leaf, ident_name, list_trees}
-use Rattle.swc_ast.specs.Redex.{is_zero}
+use Rattle.swc_ast.specs.Redex.{is_zero, is_delete}
 use Rattle.swc_ast.specs.Tree as tree
 use Rattle.swc_ast.specs.Tree.{Tree, node, ε, ◌⊳◌}
 use Rattle.swc_ast.specs.Views.{expr_tree}
@@ -127,3 +127,8 @@ shielded_at p e n h s items =
     ∙ ap (λ xs. node tree.Seq (nowhere ∷ []) (list_trees expr_tree xs)) items
     ∙ ap (λ z. node tree.Seq (nowhere ∷ []) (z ⊳ expr_tree e ⊳ ε)) (expr_tree-Lit (lit.Num (record { span = nowhere; value = pos zero })))
     ∙ sym (ap (λ b. if b then expr_tree e else guarded (nowhere ∷ []) (nowhere ∷ []) (expr_tree e)) h)
+
+-- `delete`
+pub delete_label : (n : UnaryExpr Expr) (e : Expr) → e ≡ in_expr.Unary n → n.op ≡ op.Delete → is_delete (label_of (expr_tree e)) ≡ true
+unfolding unary_node
+delete_label n e h i = ap (λ t. is_delete (label_of t)) (ap expr_tree h ∙ expr_tree-Unary n ∙ ap (λ o. unary_node o n.span (expr_tree n.arg.value)) i)

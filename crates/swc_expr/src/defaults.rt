@@ -27,7 +27,7 @@ fn is_void(ctx: &ExprCtx, e: &Expr) -> bool
 }
 
 /// A default that is undefined goes: the parameter is that without it.
-pub fn drop_default(alloc: Global, ctx: &ExprCtx, p: &mut Pat) -> bool
+pub(crate) fn drop_default(alloc: Global, ctx: &ExprCtx, p: &mut Pat) -> bool
     ensures { Stepped (simplify_pass (unresolved ctx.now)) result (param_tree expr_tree p.old) (param_tree expr_tree p.new) }
 {
     match p {

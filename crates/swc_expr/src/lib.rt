@@ -1,5 +1,9 @@
 //! The expression simplifier: operators, conditions, sequences, spreads and members of what is known become what they give.
 #![tactic(auto)]
 
-pub mod defaults;
-pub mod places;
+mod defaults;
+mod places;
+mod rules;
+mod simplify;
+
+pub use simplify::{Config, SimplifyExpr, expr_simplifier};

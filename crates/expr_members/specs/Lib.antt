@@ -1,0 +1,3 @@
+pub mod Arrays
+pub mod Fronts
+pub mod Objects

@@ -1,0 +1,15 @@
+//! Folds of sequences, of spreads of literals, and of members of literals: what takes the place of such a node, its
+//! children being folded already.
+#![tactic(auto)]
+
+mod arrays;
+mod properties;
+mod sequences;
+mod spreads;
+
+pub use properties::spread_properties;
+pub use sequences::fold_sequence;
+pub use spreads::spread_items;
+
+#[cfg(test)]
+mod tests;

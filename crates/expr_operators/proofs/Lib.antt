@@ -1,0 +1,15 @@
+pub mod Powers
+pub mod Digits
+pub mod LiteralNodes
+pub mod Zeros
+pub mod Weights
+pub mod Units
+pub mod Beside
+pub mod Comparing
+pub mod UnarySteps
+pub mod BinarySteps
+pub mod Made
+pub mod Words
+pub mod Rests
+pub mod Alike
+pub mod UnaryRests

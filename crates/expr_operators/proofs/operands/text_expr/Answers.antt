@@ -1,0 +1,5 @@
+use Rattle.swc_ast.proofs.Equations.{expr_tree-Lit}
+use Rattle.expr_operators.proofs.operands.text_expr.Goals as goal
+
+pub returns : goal.returns
+returns c = expr_tree-Lit _

@@ -1,0 +1,4 @@
+pub mod Nodes
+pub mod Literals
+pub mod Names
+pub mod Steps

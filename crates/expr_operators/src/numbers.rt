@@ -1,0 +1,92 @@
+//! Operators on known numbers. ECMA-262, 13.6 to 13.12 and 13.15.3.
+ghost use Rattle.std.specs.Prelude.{◌≡◌, IfOk, IsNone, None, Some, false, true};
+ghost use Rattle.swc_ast.specs.Redex as redex;
+ghost use Rattle.swc_ast.specs.Views.{expr_tree};
+ghost use Rattle.swc_utils.specs.Globals.{unresolved};
+ghost use Rattle.swc_utils.specs.Sound.{IfKnown, known_number, numeric};
+ghost use Rattle.swc_utils.specs.Types as types;
+ghost use Rattle.expr_rules.specs.Arithmetic as rules;
+ghost use Rattle.expr_operators.specs.Nodes.{binary_of};
+ghost use Rattle.expr_operators.specs.Steps.{Stands};
+
+use crate::arithmetic::compute;
+use crate::length::admits;
+use crate::literals::literal_number;
+use crate::operands::number_expr;
+use std::alloc::Global;
+use swc_ast::{BinExpr, BinaryOp, Expr, PassError};
+use swc_utils::{ExprCtx, ExprExt, Value};
+
+/// `- * / % ** & | ^` and the shifts, which give a number whatever their sides are.
+pub(crate) fn is_numeric(op: BinaryOp) -> bool
+    ensures { result ≡ types.is_numeric_op op }
+{
+    match op {
+        BinaryOp::Sub
+        | BinaryOp::Mul
+        | BinaryOp::Div
+        | BinaryOp::Mod
+        | BinaryOp::Exp
+        | BinaryOp::BitAnd
+        | BinaryOp::BitOr
+        | BinaryOp::BitXor
+        | BinaryOp::LShift
+        | BinaryOp::RShift
+        | BinaryOp::ZeroFillRShift => true,
+        _ => false,
+    }
+}
+
+fn computed(op: BinaryOp, a: Value<Option<i64>>, b: Value<Option<i64>>) -> Value<Option<i64>>
+    ensures { known_number result ≡ rules.computed op (known_number a) (known_number b) }
+{
+    match (a, b) {
+        (Value::Known(a), Value::Known(b)) => compute(op, a, b),
+        _ => Value::Unknown,
+    }
+}
+
+/// What an operator gives on two sides of known numbers, where the length rule admits it.
+#[tactic(auto, using(crate::proofs::Rests::none_rests, crate::proofs::Rests::long_rests))]
+fn admitted(ctx: &ExprCtx, op: BinaryOp, left: &Expr, right: &Expr) -> Value<Option<i64>>
+    ensures computed { IfKnown result (λ k. rules.fold_numbers (unresolved ctx.now) op (expr_tree left.now) (expr_tree right.now) ≡ Some (numeric k)) }
+    ensures admitted { IfKnown result (λ k. rules.admits op (expr_tree left.now) (expr_tree right.now) (numeric k) ≡ true) }
+    ensures literals { types.is_numeric_op op ≡ true → known_number result ≡ None → redex.number_redex op (expr_tree left.now) (expr_tree right.now) ≡ false }
+{
+    match computed(op, left.as_pure_number(ctx), right.as_pure_number(ctx)) {
+        Value::Known(number) => {
+            if admits(op, left, right, number) {
+                return Value::Known(number);
+            }
+            Value::Unknown
+        }
+        Value::Unknown => Value::Unknown,
+    }
+}
+
+/// `<<`, `>>` and `>>>`
+fn shifts(op: BinaryOp) -> bool {
+    match op {
+        BinaryOp::LShift | BinaryOp::RShift | BinaryOp::ZeroFillRShift => true,
+        _ => false,
+    }
+}
+
+/// An operator on two known numbers whose result the length rule admits: the result. Shifts of number literals alone.
+#[tactic(auto, using(crate::proofs::BinarySteps::numbers_step, crate::proofs::Rests::numeric_rests, crate::proofs::Rests::left_rests, crate::proofs::Rests::right_rests))]
+pub(crate) fn fold_arithmetic(
+    alloc: Global,
+    ctx: &ExprCtx,
+    n: &BinExpr,
+) -> Result<Option<Expr>, PassError>
+    ensures steps { IfOk result (λ o. Stands (unresolved ctx.now) (binary_of n.now) o) }
+    ensures finished { types.is_numeric_op n.now.op ≡ true → IfOk result (λ o. IsNone o → redex.binary_redex n.now.op (expr_tree n.now.left.value) (expr_tree n.now.right.value) ≡ false) }
+{
+    if shifts(n.op) && (literal_number(&n.left).is_none() || literal_number(&n.right).is_none()) {
+        return Ok(None);
+    }
+    match admitted(ctx, n.op, &n.left, &n.right) {
+        Value::Known(number) => Ok(Some(number_expr(alloc, ctx, n.span, number)?)),
+        Value::Unknown => Ok(None),
+    }
+}

@@ -1,0 +1,117 @@
+//! The rules of the pass at each node.
+ghost use Rattle.std.specs.Prelude.{◌≡◌, IfOk, IsNone, IsTrue, true};
+ghost use Rattle.swc_ast.specs.Redex as redex;
+ghost use Rattle.swc_ast.specs.Views.{expr_tree};
+ghost use Rattle.swc_static.specs.Names.{label_of};
+ghost use Rattle.swc_utils.specs.Globals.{unresolved};
+ghost use Rattle.expr_rules.specs.Replaced.{Replaced};
+ghost use Rattle.swc_expr.specs.Simplifies.{Rests, simplify_pass};
+
+use crate::defaults::drop_default;
+use crate::places::{is_shield, shielded};
+use expr_members::{fold_sequence, spread_items, spread_properties};
+use expr_operators::{fold_binary, fold_condition, fold_unary};
+use std::alloc::{AllocError, Global};
+use swc_ast::{Expr, ModuleItem, Pat, PassError, Stmt, UnaryOp};
+use swc_utils::ExprCtx;
+use swc_walk::{ListPlace, Place, Rules};
+
+/// The rules, for a module whose unresolved names are those of a context.
+#[derive(Drop)]
+pub(crate) struct ExprRules {
+    pub(crate) alloc: Global,
+    pub(crate) ctx: ExprCtx,
+}
+
+/// Whether an expression is a callee.
+fn is_callee(place: Place) -> bool {
+    match place {
+        Place::Callee => true,
+        Place::Value | Place::Statement | Place::TypeOf | Place::Delete | Place::Part => false,
+    }
+}
+
+/// Whether an expression is `delete` of something.
+fn is_delete(e: &Expr) -> bool
+    ensures { IsTrue result → redex.is_delete (label_of (expr_tree e.now)) ≡ true }
+{
+    match e {
+        Expr::Unary(n) => match n.op {
+            UnaryOp::Delete => true,
+            _ => false,
+        },
+        _ => false,
+    }
+}
+
+impl ExprRules {
+    /// What takes an expression's place, whose children are done. None: no rule fits, and it is as it was.
+    #[tactic(auto, using(swc_ast::proofs::Equations::forms))]
+    fn fold(&self, place: Place, e: &mut Expr) -> Result<Option<Expr>, PassError>
+        ensures steps { IfOk result (λ o. Replaced (unresolved self.now.ctx) (expr_tree e.old) (expr_tree e.new) o) }
+        ensures finished { IfOk result (λ o. IsNone o → Rests (expr_tree e.new)) }
+    {
+        match e {
+            Expr::Unary(n) => fold_unary(self.alloc, &self.ctx, n),
+            Expr::Bin(n) => fold_binary(self.alloc, &self.ctx, n),
+            Expr::Cond(n) => fold_condition(self.alloc, &self.ctx, n),
+            Expr::Seq(n) => Ok(fold_sequence(self.alloc, &self.ctx, is_callee(place), n)?),
+            Expr::Array(n) => Ok(spread_items(self.alloc, n)?),
+            Expr::Object(n) => Ok(spread_properties(self.alloc, n)?),
+            Expr::Member(_) => Ok(None),
+            Expr::Call(_) => Ok(None),
+            Expr::This(_)
+            | Expr::Fn(_)
+            | Expr::Update(_)
+            | Expr::Assign(_)
+            | Expr::New(_)
+            | Expr::Ident(_)
+            | Expr::Lit(_)
+            | Expr::Tpl(_)
+            | Expr::Arrow(_)
+            | Expr::Invalid(_) => Ok(None),
+        }
+    }
+}
+
+impl Rules for ExprRules {
+    ghost pass = { λ r. simplify_pass (unresolved r.ctx) };
+
+    fn enters_expr(&self, e: &Expr) -> bool {
+        !is_delete(e)
+    }
+
+    fn leave_expr(&self, place: Place, e: &mut Expr) -> Result<bool, AllocError> {
+        if is_shield(place, e) {
+            return Ok(false);
+        }
+        match self.fold(place, e) {
+            Ok(Some(folded)) => {
+                *e = shielded(self.alloc, place, folded)?;
+                Ok(true)
+            }
+            Ok(None) => Ok(false),
+            Err(_) => Err(AllocError),
+        }
+    }
+
+    fn leave_param(&self, p: &mut Pat) -> Result<bool, AllocError> {
+        Ok(drop_default(self.alloc, &self.ctx, p))
+    }
+
+    fn leave_stmt(&self, _s: &mut Stmt) -> Result<bool, AllocError> {
+        Ok(false)
+    }
+
+    fn leave_list(&self, _place: ListPlace, _stmts: &mut Vec<Stmt>) -> Result<bool, AllocError> {
+        Ok(false)
+    }
+
+    fn leave_item(&self, _item: &mut ModuleItem) -> Result<bool, AllocError> {
+        Ok(false)
+    }
+
+    fn leave_items(&self, _items: &mut Vec<ModuleItem>) -> Result<bool, AllocError> {
+        Ok(false)
+    }
+}
