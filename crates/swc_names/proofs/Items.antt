@@ -1,5 +1,5 @@
 -- The tree of an item, by the module declaration that it is.
-use Rattle.std.proofs.Common.{◌≡◌, Option, Some, sym, ap}
+use Rattle.std.proofs.Common.{◌≡◌, Some, sym, ap}
 use Rattle.std.proofs.lemmas.Option.{none-some}
 use Rattle.std.specs.Prelude.{unwrap_or}
 use Rattle.swc_ast.specs.Modules.{item_tree, module_decl_tree}

@@ -1,13 +1,13 @@
 -- The number of a name is where it stands among names that stand there once each.
-use Rattle.std.proofs.Common.{◌≡◌, ℕ, zero, suc, ◌+◌, ◌<◌, Bool, true, false, not, cond, List, [], ◌∷◌, map, length, slice_get, position, get_or, Option, Some, None, refl, sym, ap, ◌∙◌, arith}
-use Rattle.std.proofs.lemmas.Bool.{false≢true, lt-ltb}
+use Rattle.std.proofs.Common.{◌≡◌, ℕ, zero, suc, ◌+◌, false, not, cond, List, [], ◌∷◌, length, slice_get, position, get_or, Option, Some, None, refl, sym, ap, ◌∙◌, arith}
+use Rattle.std.proofs.lemmas.Bool.{lt-ltb}
 use Rattle.std.proofs.lemmas.List.{length-map}
 use Rattle.std.proofs.lemmas.List.Quantifiers.{position-Some}
 use Rattle.std.proofs.lemmas.Option.{none-some, slice_get_within, slice_get-get_or, slice_get-map, slice_get_past}
 use Rattle.std.specs.List.{IsDistinct, AllByRecursion, prefix_len}
 use Rattle.std.specs.Borrow.{Bor}
 use Rattle.std.specs.Slice.{IsItemAt}
-use Rattle.std.specs.Prelude.{nat_lt, unwrap_or, option_map, option_copied, IfSome}
+use Rattle.std.specs.Prelude.{unwrap_or, option_map, option_copied, IfSome}
 use Rattle.swc_ast.specs.Tree.{Name, same_name}
 use Rattle.swc_static.proofs.Names.{same_name_path, same_name_itself, same_name_swap}
 use Rattle.swc_names.specs.Ids.{Id, id_name, ids}

@@ -49,7 +49,11 @@ impl Choice {
     fn front<'a>(self, kind: Kind<'a>) -> Option<&'a Ident>
         ensures { optional result ≡ front_names self (kind_label kind.entry) }
     {
-        if self.asks(kind) { own_name(kind) } else { None }
+        if self.asks(kind) {
+            own_name(kind)
+        } else {
+            None
+        }
     }
 
     /// The name of a node behind its first child.
@@ -182,10 +186,7 @@ fn add_names<'a>(
     add_optional(names, waiting)
 }
 
-fn add_optional<'a>(
-    names: &mut Vec<&'a Ident>,
-    name: Option<&'a Ident>,
-) -> Result<(), AllocError>
+fn add_optional<'a>(names: &mut Vec<&'a Ident>, name: Option<&'a Ident>) -> Result<(), AllocError>
     ensures { OnOk result (idents_of names.new.items ≡ idents_of names.old.items ++ optional name.entry) }
 {
     if let Some(n) = name {

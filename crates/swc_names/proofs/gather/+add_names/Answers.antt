@@ -11,7 +11,7 @@ loop-child-init t c =
     let l = kind_label c.args.opened.kind in
     let cs = children_forest c.args.opened.children in (
       ap (λ ys. idents c.add_optional.new.names.items ++ names_among c.args.choice ys cs) c.behind-waiting.ensures
-      ∙ starts c.args.choice l cs (idents c.args.names.now.items) (idents c.add_optional.new.names.items) (c.in_ok-add_optional.ensures ∙ ap (λ ys. idents c.args.names.now.items ++ ys) c.front.ensures) (sym c.enters.ensures ∙ c.if-not-enters.false),
+          ∙ starts c.args.choice l cs (idents c.args.names.now.items) (idents c.add_optional.new.names.items) (c.in_ok-add_optional.ensures ∙ ap (λ ys. idents c.args.names.now.items ++ ys) c.front.ensures) (sym c.enters.ensures ∙ c.if-not-enters.false),
       omega arith,
     )
 

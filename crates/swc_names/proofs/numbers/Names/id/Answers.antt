@@ -1,4 +1,4 @@
-use Rattle.std.proofs.Common.{sym, subst}
+use Rattle.std.proofs.Common.{subst}
 use Rattle.std.specs.Slice.{IsItemAt}
 use Rattle.swc_names.proofs.Numbered.{lent, if_numbered}
 use Rattle.swc_names.proofs.numbers.Names.id.Goals as goal
