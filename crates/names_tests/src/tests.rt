@@ -1,6 +1,4 @@
-use crate::build::{
-    attempt, block, call, declaration, function, ident, param, param_with_default,
-};
+use crate::build::{attempt, block, call, declaration, function, ident, param, param_with_default};
 use std::alloc::{AllocError, Global};
 use std::test::Fail;
 use stmt_like::StmtLike;
@@ -82,7 +80,15 @@ fn tells_declarations_apart(rt: HostRuntime) -> Result<(), Fail> {
     // the parameter of the handler stands behind the block
     let names = Names::new(alloc, &stmts)?;
     assert_eq!(rt; names.len(), 10);
-    for (name, number) in [("a", 0), ("b", 1), ("c", 2), ("d", 3), ("e", 4), ("f", 5), ("j", 9)] {
+    for (name, number) in [
+        ("a", 0),
+        ("b", 1),
+        ("c", 2),
+        ("d", 3),
+        ("e", 4),
+        ("f", 5),
+        ("j", 9),
+    ] {
         assert_eq!(rt; names.number(&id(alloc, name)?), Some(number));
     }
     Ok(())
