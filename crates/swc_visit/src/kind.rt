@@ -1,4 +1,8 @@
 //! What a node is, beside its children.
+ghost use Rattle.std.specs.Prelude.{◌≡◌};
+ghost use Rattle.swc_ast.specs.Scope.{holds_statements as is_holder};
+ghost use Rattle.swc_visit.specs.Kinds.{kind_label};
+
 use swc_ast::{
     AssignOp, BinaryOp, CatchClause, ExportNamedSpecifier, ExprOrSpread, Ident, IdentName,
     ImportNamedSpecifier, Str, SwitchCase, TplElement, UnaryOp, UpdateOp, VarDeclKind,
@@ -78,4 +82,26 @@ pub enum Kind<'a> {
     ExportSpecifier(&'a ExportNamedSpecifier),
     ExportDefaultFn(&'a Option<Ident>),
     ExportDefaultExpr,
+}
+
+impl<'a> Kind<'a> {
+    /// Whether statements stand among the children, those of functions aside.
+    pub fn holds_statements(self) -> bool
+        ensures { result ≡ is_holder (kind_label self.entry) }
+    {
+        match self {
+            Kind::Block
+            | Kind::If
+            | Kind::While
+            | Kind::DoWhile
+            | Kind::For
+            | Kind::Labeled(_)
+            | Kind::Switch(_)
+            | Kind::CaseBody
+            | Kind::Try(_)
+            | Kind::VarDecl(_)
+            | Kind::ExportDecl => true,
+            _ => false,
+        }
+    }
 }

@@ -14,6 +14,7 @@ mod weights;
 pub use children::{Children, NodeList};
 pub use class::Class;
 pub use kind::Kind;
+pub use modules::open_module_decl;
 pub use node::Node;
 pub use opened::Opened;
 pub use weights::{weight, weight_of_script};

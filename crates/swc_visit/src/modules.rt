@@ -49,8 +49,9 @@ fn open_item<'a>(n: &'a ModuleItem) -> Opened<'a>
     }
 }
 
+/// What a module declaration is, and its children.
 #[tactic(auto, using(swc_ast::proofs::Equations::forms))]
-fn open_module_decl<'a>(n: &'a ModuleDecl) -> Opened<'a>
+pub fn open_module_decl<'a>(n: &'a ModuleDecl) -> Opened<'a>
     ensures { Opens (module_decl_tree n.now) result }
 {
     match n {

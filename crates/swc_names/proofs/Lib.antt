@@ -1,0 +1,5 @@
+mod Gathered
+mod Distinct
+mod Sorted
+mod Numbered
+mod Items

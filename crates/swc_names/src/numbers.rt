@@ -1,0 +1,79 @@
+//! Names by number.
+ghost use Rattle.std.specs.Prelude.{◌≡◌, IfOk, IfErr, IfSome, Some, length, position, slice_get, option_map};
+ghost use Rattle.swc_ast.specs.Modules.{item_tree};
+ghost use Rattle.swc_ast.specs.Parts.{list_trees};
+ghost use Rattle.swc_ast.specs.Tree.{same_name};
+ghost use Rattle.swc_ast.specs.declared.errors.PassError.TheVariants.{OutOfMemory};
+ghost use Rattle.swc_names.specs.Ids.{id_name, ids, idents};
+ghost use Rattle.swc_names.specs.Names.{mentioned, distinct};
+
+use crate::gather::{Choice, gather};
+use indexmap::IndexSet;
+use std::alloc::{AllocError, Global};
+use std::marker::Model;
+use stmt_like::StmtLike;
+use swc_ast::{Id, Ident, PassError};
+
+/// The names of a tree, with numbers from 0 on in the order in which they first stand in the text.
+#[derive(Drop)]
+pub struct Names {
+    set: IndexSet<Id>,
+}
+
+impl Model for Names {
+    ghost use Rattle.std.specs.Prelude.{List};
+    ghost use Rattle.swc_ast.specs.Tree as tree;
+    ghost use Rattle.swc_names.specs.Ids.{ids};
+
+    ghost Value = { List tree.Name };
+
+    ghost view = { λ n. ids n.set.keys };
+}
+
+impl Names {
+    /// The names of the items of a module, or of statements. Refuses where memory is refused.
+    pub fn new<T: StmtLike>(alloc: Global, items: &[T]) -> Result<Names, PassError>
+        ensures names { IfOk result (λ n. n ≡ distinct (mentioned (list_trees (λ x. item_tree (T.item x)) items.now))) }
+        ensures memory { IfErr result (λ e. e ≡ OutOfMemory) }
+    {
+        let names = gather(alloc, items, Choice::Every)?;
+        let set = set_of(alloc, &names)?;
+        Ok(Names { set })
+    }
+
+    /// The number of a name, if it stands in the tree.
+    pub fn number(&self, id: &Id) -> Option<usize>
+        ensures number { result ≡ position (same_name (id_name id.now)) self.now }
+        ensures named { IfSome result (λ n. slice_get self.now n ≡ Some (id_name id.now)) }
+    {
+        self.set.get_index_of(id)
+    }
+
+    /// The name that has a number, if one has.
+    pub fn id(&self, number: usize) -> Option<&Id>
+        ensures name { option_map (λ i. id_name i.now) result ≡ slice_get self.now number }
+        ensures numbered { IfSome result (λ i. position (same_name (id_name i.now)) self.now ≡ Some number) }
+    {
+        self.set.as_slice().get(number)
+    }
+
+    /// How many names there are: their numbers are those below.
+    pub fn len(&self) -> usize
+        ensures { result ≡ length self.now }
+    {
+        self.set.len()
+    }
+}
+
+/// The set of names, in their order.
+fn set_of(alloc: Global, names: &[&Ident]) -> Result<IndexSet<Id>, AllocError>
+    ensures { IfOk result (λ s. ids s.keys ≡ distinct (idents names.now)) }
+{
+    let mut set = IndexSet::new(alloc);
+    let mut left = names;
+    while let [name, rest @ ..] = left {
+        set.insert(name.to_id()?)?;
+        left = rest;
+    }
+    Ok(set)
+}
