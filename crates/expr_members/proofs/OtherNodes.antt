@@ -2,6 +2,8 @@
 use Rattle.std.proofs.Common.{◌≡◌, ℕ, Bool, false, ◌==◌, refl, sym, ap, ◌∙◌}
 use Rattle.swc_ast.specs.Tree as tree
 use Rattle.swc_ast.specs.Tree.{Tree, node}
+use Rattle.swc_ast.specs.Redex.{is_text}
+use Rattle.swc_ast.specs.declared.literals.Lit.{Lit}
 use Rattle.swc_ast.specs.SameLaws.{impossible}
 use Rattle.swc_ast.specs.Views.{expr_tree}
 use Rattle.swc_ast.proofs.ApartExpressions.{ExprForm, expr_form, expr_at}
@@ -71,3 +73,17 @@ opened_object_by_form (node _ ss ts) h = refl
 
 pub no_opened_object : (e : Expr) → ((y : ObjectLit PropOrSpread) → e ≡ in_expr.Object y → ⊥) → is_opened_object (expr_tree e) ≡ false
 no_opened_object e none = opened_object_by_form (expr_tree e) (other_than_object e none)
+
+other_than_literal : (e : Expr) → ((y : Lit) → e ≡ in_expr.Lit y → ⊥) → (15 == form (expr_tree e)) ≡ false
+other_than_literal e none = by (out-Expr e) (roll-out-Expr e)
+  where
+    by : (o : ExprForm) → roll-Expr o ≡ e → (15 == form (expr_tree e)) ≡ false
+    by (Open.Lit n) r = absurd (none n (sym r ∙ in_expr.rolls-Lit n))
+    by o r = ap (λ x. 15 == form (expr_tree x)) (sym r) ∙ ap (λ n. 15 == n) (expr_at o)
+
+text_by_form : (t : Tree) → (15 == form t) ≡ false → is_text t ≡ false
+text_by_form (node (tree.StrLit x) ss ts) h = impossible (sym h)
+text_by_form (node _ ss ts) h = refl
+
+pub no_text : (e : Expr) → ((y : Lit) → e ≡ in_expr.Lit y → ⊥) → is_text (expr_tree e) ≡ false
+no_text e none = text_by_form (expr_tree e) (other_than_literal e none)

@@ -1,3 +1,4 @@
 pub mod Arrays
 pub mod Fronts
 pub mod Objects
+pub mod Members

@@ -1,6 +1,8 @@
 //! Array literals and their items.
-ghost use Rattle.std.specs.Prelude.{◌≡◌, [], ◌∷◌, true, IfOk, map};
-ghost use Rattle.swc_ast.specs.Expressions.{item_kind};
+ghost use Rattle.std.specs.Prelude.{◌≡◌, [], ◌∷◌, true, IfOk, OnOk, map};
+ghost use Rattle.swc_ast.specs.Expressions.{item_kind, item_trees};
+ghost use Rattle.swc_ast.specs.Parts.{list_trees};
+ghost use Rattle.swc_ast.specs.Scope.{joined};
 ghost use Rattle.swc_ast.specs.Views.{expr_tree};
 ghost use Rattle.swc_utils.specs.Pure.{has_spread as kinds_have_spread};
 ghost use Rattle.expr_rules.specs.Leaves.{void_tree};
@@ -72,4 +74,20 @@ pub(crate) fn void_zero(alloc: Global, span: Span) -> Result<Expr, AllocError>
         op: UnaryOp::Void,
         arg: Box::new(alloc, zero)?,
     }))
+}
+
+/// Adds the items of an array, holes left out.
+#[tactic(auto, using(swc_utils::proofs::Chains::pushed, swc_utils::proofs::Chains::joined_assoc, swc_utils::proofs::Chains::joined_none))]
+pub(crate) fn push_items(
+    items: Vec<Option<ExprOrSpread>>,
+    out: &mut Vec<Expr>,
+) -> Result<(), AllocError>
+    ensures { OnOk result (list_trees expr_tree out.new.items ≡ joined (list_trees expr_tree out.old.items) (item_trees expr_tree items.items)) }
+{
+    for item in items {
+        if let Some(item) = item {
+            out.push(Box::into_inner(item.expr))?;
+        }
+    }
+    Ok(())
 }

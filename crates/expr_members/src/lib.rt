@@ -3,10 +3,15 @@
 #![tactic(auto)]
 
 mod arrays;
+mod items;
+mod keys;
+mod members;
 mod properties;
 mod sequences;
 mod spreads;
+mod texts;
 
+pub use members::fold_member;
 pub use properties::spread_properties;
 pub use sequences::fold_sequence;
 pub use spreads::spread_items;

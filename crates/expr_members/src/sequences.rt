@@ -3,7 +3,7 @@ ghost use Rattle.std.specs.Prelude.{◌≡◌, false, not, ◌&&◌, ◌||◌, �
 ghost use Rattle.swc_ast.specs.Meaning.{is_unresolved};
 ghost use Rattle.swc_ast.specs.Parts.{ident_name, list_trees};
 ghost use Rattle.swc_ast.specs.Scope.{joined};
-ghost use Rattle.swc_ast.specs.Expressions.{item_trees, seq_tree};
+ghost use Rattle.swc_ast.specs.Expressions.{seq_tree};
 ghost use Rattle.swc_ast.specs.Views.{expr_tree};
 ghost use Rattle.swc_utils.specs.Globals.{unresolved};
 ghost use Rattle.swc_utils.specs.Literals.{is_literal as tree_is_literal};
@@ -12,10 +12,10 @@ ghost use Rattle.expr_rules.specs.Replaced.{Replaced};
 ghost use Rattle.expr_rules.specs.Sequences.{is_bound_name as tree_is_bound_name, folds as tree_folds, some_folds as tree_some_folds, front_item, front_folded};
 ghost use Rattle.expr_members.specs.Fronts.{any_folds as any_tree_folds, all_folded};
 
-use crate::arrays::{is_plain_array, items_of};
+use crate::arrays::{is_plain_array, items_of, push_items};
 use std::alloc::{AllocError, Global};
 use std::mem;
-use swc_ast::{Expr, ExprOrSpread, Ident, SeqExpr, Span, SyntaxContext};
+use swc_ast::{Expr, Ident, SeqExpr, Span, SyntaxContext};
 use swc_utils::{ExprCtx, is_literal};
 
 /// Whether the module binds a name.
@@ -72,19 +72,6 @@ fn some_folds(ctx: &ExprCtx, is_callee: bool, exprs: &[Expr]) -> bool
         [] => false,
         [front @ .., _] => any_folds(ctx, is_callee, front),
     }
-}
-
-/// Adds the items of an array, holes left out.
-#[tactic(auto, using(swc_utils::proofs::Chains::pushed, swc_utils::proofs::Chains::joined_assoc, swc_utils::proofs::Chains::joined_none))]
-fn push_items(items: Vec<Option<ExprOrSpread>>, out: &mut Vec<Expr>) -> Result<(), AllocError>
-    ensures { OnOk result (list_trees expr_tree out.new.items ≡ joined (list_trees expr_tree out.old.items) (item_trees expr_tree items.items)) }
-{
-    for item in items {
-        if let Some(item) = item {
-            out.push(Box::into_inner(item.expr))?;
-        }
-    }
-    Ok(())
 }
 
 /// Adds what is left of an item in front of the last.

@@ -1,8 +1,7 @@
 -- Truths of one type, compared.
 use Rattle.std.proofs.Common.{◌≡◌, ℕ, Bool, true, false, if◌then◌else◌, Option, Some, None, refl, sym, ap, ◌∙◌}
 use Rattle.swc_ast.specs.Tree.{Tree}
-use Rattle.swc_ast.specs.Operators.{Numeric}
-use Rattle.swc_ast.specs.Value.{Truth, Value}
+use Rattle.swc_ast.specs.Value.{Truth}
 use Rattle.swc_utils.specs.Known.{number, pure_truth, text, truth}
 use Rattle.swc_utils.specs.Pure.{pure}
 use Rattle.swc_utils.specs.Types.{type_of}

@@ -1,19 +1,19 @@
 -- Folds of operators between operands and of conditions are steps.
-use Rattle.std.proofs.Common.{◌≡◌, ℕ, Bool, true, false, not, if◌then◌else◌, List, [], ◌∷◌, Option, Some, refl, sym, ap, ◌∙◌, subst}
+use Rattle.std.proofs.Common.{◌≡◌, ℕ, zero, suc, pos, negsuc, Bool, true, false, if◌then◌else◌, List, [], ◌∷◌, Some, refl, sym, ap, ◌∙◌, subst}
 use Rattle.swc_ast.specs.Tree.{Binary, Cond, Seq, Tree, node, ε, ◌⊳◌}
-use Rattle.swc_ast.specs.Operators.{Numeric}
+use Rattle.swc_ast.specs.Operators.{Numeric, NotANumber, Whole}
 use Rattle.swc_ast.specs.Views.{expr_tree}
 use Rattle.swc_ast.specs.declared.Span.{Span}
 use Rattle.swc_ast.specs.declared.BinaryOp.{BinaryOp}
 use Rattle.swc_ast.specs.declared.BinaryOp.TheVariants as op
 use Rattle.swc_ast.specs.declared.expressions.Expr.{Expr}
-use Rattle.swc_utils.specs.Effects.{effects, effects_all, is_strict, preserve}
-use Rattle.swc_utils.specs.Known.{truth}
+use Rattle.swc_utils.specs.Effects.{effects, effects_all, preserve}
+use Rattle.swc_utils.specs.Known.{number, truth}
 use Rattle.swc_utils.specs.Pure.{pure}
-use Rattle.expr_rules.specs.Arithmetic.{admits, fold_numbers, fold_sum, fold_texts}
+use Rattle.expr_rules.specs.Arithmetic.{admits, fold_numbers, fold_sum, fold_texts, is_zero, regroups}
 use Rattle.expr_rules.specs.Choices.{chosen_arm, chosen_side, decided, is_logical}
 use Rattle.expr_rules.specs.Equality.{equal_known, is_equality, tells}
-use Rattle.expr_rules.specs.ExprSteps.{ExprStep, join_texts, add_numbers, compute_numbers, equality, logical, choice}
+use Rattle.expr_rules.specs.ExprSteps.{ExprStep, join_texts, add_numbers, compute_numbers, equality, logical, choice, power_zero, regroup, instance}
 use Rattle.expr_rules.specs.Leaves.{number_tree, text_tree, truth_tree}
 use Rattle.expr_operators.specs.Steps.{TruthStep}
 use Rattle.expr_operators.proofs.UnarySteps.{step_to}
@@ -63,3 +63,27 @@ arm_step mark s t a b e k h p is = step_to mark _ _ e (is ∙ ap (chosen_arm (s 
 
 pub test_step : (mark : ℕ) (s : Span) (t a b : Tree) (e : Expr) (k : Bool) → truth mark t ≡ Some k → pure mark t ≡ false → expr_tree e ≡ node Seq (s ∷ []) (t ⊳ (if k then a else b) ⊳ ε) → ExprStep mark (node Cond (s ∷ []) (t ⊳ a ⊳ b ⊳ ε)) (expr_tree e)
 test_step mark s t a b e k h p is = step_to mark _ _ e (is ∙ ap (chosen_arm (s ∷ []) t (if k then a else b)) (sym p)) (choice (s ∷ []) (s ∷ []) t a b k h)
+
+-- powers, regrouping and `instanceof`
+
+zero_number : (k : Numeric) → is_zero k ≡ true → k ≡ Whole (pos 0)
+zero_number (Whole (pos zero)) h = refl
+zero_number (Whole (pos (suc n))) h = cc
+zero_number (Whole (negsuc n)) h = cc
+zero_number NotANumber h = cc
+
+power_at : (mark : ℕ) (s : Span) (a b : Tree) (e v : Expr) (k : Numeric) → number mark b ≡ Some k → is_zero k ≡ true → expr_tree v ≡ number_tree mark (s ∷ []) (Whole (pos 1)) → expr_tree e ≡ preserve (s ∷ []) (effects_all mark (a ⊳ b ⊳ ε)) (expr_tree v) → ExprStep mark (node (Binary op.Exp) (s ∷ []) (a ⊳ b ⊳ ε)) (expr_tree e)
+power_at mark s a b e v k h z is p = step_to mark _ _ e (p ∙ ap (preserve (s ∷ []) (effects_all mark (a ⊳ b ⊳ ε))) is) (power_zero (s ∷ []) (s ∷ []) (s ∷ []) a b (h ∙ ap Some (zero_number k z)))
+
+pub power_step : (mark : ℕ) (o : BinaryOp) (s : Span) (a b : Tree) (e v : Expr) (k : Numeric) → o ≡ op.Exp → number mark b ≡ Some k → is_zero k ≡ true → expr_tree v ≡ number_tree mark (s ∷ []) (Whole (pos 1)) → expr_tree e ≡ preserve (s ∷ []) (effects_all mark (a ⊳ b ⊳ ε)) (expr_tree v) → ExprStep mark (node (Binary o) (s ∷ []) (a ⊳ b ⊳ ε)) (expr_tree e)
+power_step mark o s a b e v k i h z is p = subst (λ x. ExprStep mark (node (Binary x) (s ∷ []) (a ⊳ b ⊳ ε)) (expr_tree e)) (sym i) (power_at mark s a b e v k h z is p)
+
+module _ (mark : ℕ) (o i : BinaryOp) (ss is rs ns : List Span) (a b c : Tree) (k : Numeric) where
+  same_op : regroups o ≡ true → fold_numbers mark o b c ≡ Some k → admits o b c k ≡ true → ExprStep mark (node (Binary o) ss (node (Binary o) is (a ⊳ b ⊳ ε) ⊳ c ⊳ ε)) (node (Binary o) rs (a ⊳ number_tree mark ns k ⊳ ε))
+  same_op g h m = regroup o ss is rs ns a b c k g h m
+
+  pub regroup_step : regroups o ≡ true → i ≡ o → fold_numbers mark o b c ≡ Some k → admits o b c k ≡ true → ExprStep mark (node (Binary o) ss (node (Binary i) is (a ⊳ b ⊳ ε) ⊳ c ⊳ ε)) (node (Binary o) rs (a ⊳ number_tree mark ns k ⊳ ε))
+  regroup_step g q h m = subst (λ x. ExprStep mark (node (Binary o) ss (node (Binary x) is (a ⊳ b ⊳ ε) ⊳ c ⊳ ε)) (node (Binary o) rs (a ⊳ number_tree mark ns k ⊳ ε))) (sym q) (same_op g h m)
+
+pub instance_step : (mark : ℕ) (s : Span) (a b : Tree) (e v : Expr) (r : Bool) → expr_tree v ≡ truth_tree (s ∷ []) r → expr_tree e ≡ preserve (s ∷ []) (effects_all mark (a ⊳ b ⊳ ε)) (expr_tree v) → ExprStep mark (node (Binary op.InstanceOf) (s ∷ []) (a ⊳ b ⊳ ε)) (expr_tree e)
+instance_step mark s a b e v r is p = step_to mark _ _ e (p ∙ ap (preserve (s ∷ []) (effects_all mark (a ⊳ b ⊳ ε))) is) (instance (s ∷ []) (s ∷ []) (s ∷ []) a b r)

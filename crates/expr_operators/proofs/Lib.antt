@@ -13,3 +13,4 @@ pub mod Words
 pub mod Rests
 pub mod Alike
 pub mod UnaryRests
+pub mod Regrouped

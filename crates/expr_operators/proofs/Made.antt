@@ -1,6 +1,6 @@
 -- The trees of the expressions that folds make.
 use Rattle.std.proofs.Common.{◌≡◌, ℕ, ℤ, pos, List, [], ◌∷◌, Option, Some, None, codes, sym, ap, ◌∙◌}
-use Rattle.swc_ast.specs.Tree.{NumLit, Read, Tree, node, ε, ◌⊳◌}
+use Rattle.swc_ast.specs.Tree.{NumLit, Read, Tree, node, ε}
 use Rattle.swc_ast.specs.Expressions.{unary_node}
 use Rattle.swc_ast.specs.declared.Span.{Span}
 use Rattle.swc_ast.specs.declared.UnaryOp.TheVariants as op

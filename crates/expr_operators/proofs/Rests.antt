@@ -1,17 +1,17 @@
 -- Operators on literals that no fold takes tell nothing.
-use Rattle.std.proofs.Common.{◌≡◌, ℕ, zero, suc, ◌*◌, ◌/◌, ◌%◌, ◌^◌, ℤ, pos, negsuc, ◌+ℤ◌, ◌-ℤ◌, Bool, true, false, not, ◌&&◌, ◌||◌, ◌==◌, nat_abs, nat_le, if◌then◌else◌, List, Option, Some, None, bit_and, bit_or, bit_xor, refl, sym, ap, ◌∙◌}
-use Rattle.std.proofs.lemmas.Bool.{or_from, or_parts}
+use Rattle.std.proofs.Common.{◌≡◌, ℕ, zero, suc, ◌*◌, ◌/◌, ◌%◌, ◌^◌, ℤ, pos, negsuc, ◌+ℤ◌, ◌-ℤ◌, Bool, true, false, not, ◌&&◌, ◌||◌, ◌==◌, nat_abs, nat_le, if◌then◌else◌, List, Option, Some, None, refl, sym, ap, ◌∙◌}
+use Rattle.std.proofs.lemmas.Bool.{or_from}
 use Rattle.swc_ast.specs.Tree as tree
 use Rattle.swc_ast.specs.Tree.{Tree, node, Forest, ε, ◌⊳◌}
 use Rattle.swc_ast.specs.Operators.{Numeric, NotANumber, Whole, greatest, core_number, nonzero_sign, is_negative, is_odd, xor, quotient, remainder, power, power_of, number_value, binary_prim, binary_value}
-use Rattle.swc_ast.specs.Redex.{is_number, is_text, is_simple_literal, is_add, is_bounded, is_short_circuit, length_rule, result_length, folds_numbers, divides_by_zero, admitted, number_of, number_redex, binary_redex}
-use Rattle.swc_ast.specs.Value.{Value, NaN, Num}
+use Rattle.swc_ast.specs.Redex.{is_number, is_simple_literal, folds_numbers, divides_by_zero, admitted, number_of, number_redex, binary_redex}
+use Rattle.swc_ast.specs.Value.{Value, Num}
 use Rattle.swc_ast.specs.declared.Span.{Span}
 use Rattle.swc_ast.specs.declared.BinaryOp.{BinaryOp}
 use Rattle.swc_ast.specs.declared.BinaryOp.TheVariants as op
 use Rattle.swc_utils.specs.Known.{of_value}
 use Rattle.swc_utils.specs.Types.{is_numeric_op}
-use Rattle.expr_rules.specs.Arithmetic.{admits, as_numeric, computed, divides, fold_numbers, fold_sum, fold_texts, is_zero}
+use Rattle.expr_rules.specs.Arithmetic.{admits, as_numeric, divides, fold_numbers, fold_sum, fold_texts, is_zero}
 use Rattle.expr_rules.specs.Comparisons.{is_comparison}
 use Rattle.expr_rules.specs.Equality.{equal_known, is_equality}
 use Rattle.expr_rules.specs.Choices.{is_logical}
@@ -113,8 +113,8 @@ module _ (mark : ℕ) (o : BinaryOp) (x y : ℤ) (ss rs : List Span) (cs ds : Fo
       let v = binary_value o (Num x) (Num y) in
       let z = divides o && is_zero (Whole y) in
       and_within (folds_numbers o) (not (divides_by_zero o b)) (admitted o a b v)
-        (ap (λ d. not d && admitted o a b v) (zero_divisor o y rs ds)
-        ∙ dead o a b z v (op_counts o x y n) (λ r h. f r (ap (λ c. if c && not z then of_value as_numeric v else None) n ∙ h)))
+      (ap (λ d. not d && admitted o a b v) (zero_divisor o y rs ds)
+      ∙ dead o a b z v (op_counts o x y n) (λ r h. f r (ap (λ c. if c && not z then of_value as_numeric v else None) n ∙ h)))
 
 -- two numbers whose result is none, or too long
 numbers_rest : (mark : ℕ) (o : BinaryOp) (a b : Tree) → is_numeric_op o ≡ true → ((r : Numeric) → fold_numbers mark o a b ≡ Some r → admits o a b r ≡ false) → number_redex o a b ≡ false

@@ -1,6 +1,6 @@
 -- What a fold that answers none leaves.
 use Rattle.std.specs.Prelude.{IfOk, IsNone}
-use Rattle.std.proofs.Common.{◌≡◌, false, Option, Result, Ok, Err, refl, sym, ap, ◌∙◌}
+use Rattle.std.proofs.Common.{◌≡◌, false, Option, Result, Ok, Err, refl, ap, ◌∙◌}
 use Rattle.swc_ast.specs.Tree as tree
 use Rattle.swc_ast.specs.Tree.{Tree, node}
 use Rattle.swc_ast.specs.Expressions.{unary_node}

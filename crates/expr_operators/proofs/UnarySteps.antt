@@ -1,11 +1,11 @@
 -- Folds of operators in front of operands are steps.
-use Rattle.std.proofs.Common.{◌≡◌, ◌≤◌, ◌-◌, ◌^◌, ℕ, ℤ, Bool, true, false, not, ◌&&◌, if◌then◌else◌, List, [], ◌∷◌, Option, Some, None, codes, bytes_eq, refl, sym, ap, ◌∙◌, subst}
-use Rattle.std.proofs.lemmas.Bool.{true≢false, and_parts}
+use Rattle.std.proofs.Common.{◌≡◌, ◌≤◌, ◌-◌, ◌^◌, ℕ, ℤ, Bool, true, false, not, if◌then◌else◌, List, [], ◌∷◌, Some, None, codes, bytes_eq, sym, ap, ◌∙◌, subst}
+use Rattle.std.proofs.lemmas.Bool.{and_parts}
 use Rattle.swc_ast.specs.Tree as tree
 use Rattle.swc_ast.specs.Tree.{Tree, node, ε, ◌⊳◌}
 use Rattle.swc_ast.specs.Expressions.{unary_node}
 use Rattle.swc_ast.specs.Meaning.{is_unresolved}
-use Rattle.swc_ast.specs.Operators.{Numeric, Whole, as_i32, to_u32, type_name}
+use Rattle.swc_ast.specs.Operators.{Numeric, Whole, as_i32, to_u32}
 use Rattle.swc_ast.specs.Value.{NaN, Undefined}
 use Rattle.swc_ast.specs.Views.{expr_tree}
 use Rattle.swc_ast.specs.Weight.{weight}
@@ -43,7 +43,6 @@ tilde_step mark s t e k z h i is = step_to mark _ _ e (is ∙ ap (λ x. number_t
 pub void_step : (mark : ℕ) (s : Span) (t : Tree) (e : Expr) → pure mark t ≡ true → 2 ≤ weight t → expr_tree e ≡ void_tree (s ∷ []) (s ∷ []) → ExprStep mark (unary_node op.Void s t) (expr_tree e)
 unfolding unary_node
 void_step mark s t e p w is = step_to mark _ _ e is (void_pure (s ∷ []) (s ∷ []) (s ∷ []) t p w)
-
 
 pub undefined_step : (mark : ℕ) (s : Span) (t : Tree) (e : Expr) → is_undefined mark t ≡ true → expr_tree e ≡ text_tree (s ∷ []) (codes "undefined") → ExprStep mark (unary_node op.TypeOf s t) (expr_tree e)
 unfolding unary_node

@@ -1,6 +1,6 @@
 -- UTF-16 units of texts, character by character.
 use Rattle.std.proofs.Common.{◌≡◌, ℕ, ◌<◌, false, List, [], ◌∷◌, ◌++◌, length, append_assoc, append-nil, refl, sym, ap, ◌∙◌, arith, encode_utf8}
-use Rattle.std.proofs.lemmas.Str.{IsUtf8-past_char, chars_past_char, chars-nil}
+use Rattle.std.proofs.lemmas.Str.{chars_past_char, chars-nil}
 use Rattle.std.specs.Str.{IsUtf8, chars}
 use Rattle.swc_ast.specs.Operators.{units_of, units_of_all, units, units_before}
 

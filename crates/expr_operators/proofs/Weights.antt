@@ -1,8 +1,8 @@
 -- What expressions weigh at least.
-use Rattle.std.proofs.Common.{◌≡◌, ◌≤◌, ◌+◌, zero, suc, ℤ, pos, negsuc, length, get_or, true, false, if◌then◌else◌, Bool, List, [], ◌∷◌, sym, ap, ◌∙◌, subst, arith}
+use Rattle.std.proofs.Common.{◌≡◌, ◌≤◌, zero, suc, ℤ, pos, negsuc, length, get_or, true, false, if◌then◌else◌, Bool, List, [], ◌∷◌, sym, ap, ◌∙◌, subst, arith}
 use Rattle.swc_ast.specs.Tree as tree
 use Rattle.swc_ast.specs.Tree.{Label, Name, Tree, node, Forest, ε, ◌⊳◌}
-use Rattle.swc_ast.specs.Expressions.{is_eval, unary_node, call_node, update_node, assign_node, member_node, member_tree, seq_tree}
+use Rattle.swc_ast.specs.Expressions.{is_eval, unary_node, call_node, update_node, assign_node, member_node, seq_tree}
 use Rattle.swc_ast.specs.Parts.{leaf, lit_tree, then_all, list_trees}
 use Rattle.swc_ast.specs.Redex.{is_zero}
 use Rattle.swc_ast.specs.Views.{expr_tree}

@@ -1,5 +1,5 @@
 -- What `typeof` gives of literals, and which expressions are none.
-use Rattle.std.proofs.Common.{◌≡◌, ℕ, true, false, Some, codes, refl, sym, ap, ◌∙◌}
+use Rattle.std.proofs.Common.{◌≡◌, ℕ, false, Some, codes, refl, ap, ◌∙◌}
 use Rattle.swc_ast.specs.Tree as tree
 use Rattle.swc_ast.specs.Tree.{Tree, node}
 use Rattle.swc_ast.specs.Expressions.{unary_node}

@@ -1,6 +1,5 @@
 -- Whether a literal is 0.
 use Rattle.std.proofs.Common.{◌≡◌, zero, suc, ℤ, pos, negsuc, true, false, Some, None, refl}
-use Rattle.std.proofs.lemmas.Option.{none-some}
 use Rattle.swc_ast.specs.Tree as tree
 use Rattle.swc_ast.specs.Tree.{Tree, node}
 use Rattle.swc_ast.specs.Redex.{is_zero}

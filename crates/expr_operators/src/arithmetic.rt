@@ -116,7 +116,11 @@ fn divide(a: Option<i64>, b: Option<i64>) -> Value<Option<i64>>
             let size = a.unsigned_abs();
             let by = b.unsigned_abs();
             if by == 0 {
-                return if size == 0 { Value::Known(None) } else { Value::Unknown };
+                return if size == 0 {
+                    Value::Known(None)
+                } else {
+                    Value::Unknown
+                };
             }
             if size % by != 0 {
                 return Value::Unknown;
@@ -164,7 +168,11 @@ fn power_of_wholes(a: i64, b: i64) -> Value<Option<i64>>
     let exponent = b.unsigned_abs();
     let negative = is_negative(a) && exponent % 2 == 1;
     if is_negative(b) {
-        return if size == 1 { signed(negative, 1) } else { Value::Unknown };
+        return if size == 1 {
+            signed(negative, 1)
+        } else {
+            Value::Unknown
+        };
     }
     match power_size(size, exponent) {
         Some(size) => signed(negative, size),
@@ -200,7 +208,7 @@ fn divides(op: BinaryOp) -> bool
     }
 }
 
-fn is_zero(number: Option<i64>) -> bool
+pub(crate) fn is_zero(number: Option<i64>) -> bool
     ensures { result ≡ rules.is_zero (numeric number) }
 {
     match number {

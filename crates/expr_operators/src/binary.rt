@@ -9,7 +9,8 @@ use crate::addition::fold_addition;
 use crate::choices::{fold_logical, is_logical};
 use crate::comparisons::{fold_comparison, is_comparison};
 use crate::equality::{fold_equality, is_equality};
-use crate::numbers::{fold_arithmetic, is_numeric};
+use crate::instances::fold_instanceof;
+use crate::numbers::{fold_numeric, is_numeric};
 use std::alloc::Global;
 use swc_ast::{BinExpr, BinaryOp, Expr, PassError};
 use swc_utils::ExprCtx;
@@ -19,11 +20,7 @@ use swc_utils::ExprCtx;
 /// form of its sides, and `&&` and `||` by the truth of the left side. Operands may be moved out of the node, which is
 /// worth nothing then. None where no rule fits; then the node is as it was. Refuses where memory is refused. ECMA-262,
 /// 13.6 to 13.13.
-pub fn fold_binary(
-    alloc: Global,
-    ctx: &ExprCtx,
-    n: &mut BinExpr,
-) -> Result<Option<Expr>, PassError>
+pub fn fold_binary(alloc: Global, ctx: &ExprCtx, n: &mut BinExpr) -> Result<Option<Expr>, PassError>
     ensures steps { IfOk result (λ o. Replaced (unresolved ctx.now) (binary_of n.old) (binary_of n.new) o) }
     ensures finished { IfOk result (λ o. IsNone o → kind_at expr_redex (binary_of n.new) ≡ false) }
 {
@@ -37,10 +34,11 @@ pub fn fold_binary(
         return fold_equality(alloc, ctx, n);
     }
     if is_numeric(n.op) {
-        return fold_arithmetic(alloc, ctx, n);
+        return fold_numeric(alloc, ctx, n);
     }
     match n.op {
         BinaryOp::Add => fold_addition(alloc, ctx, n),
+        BinaryOp::InstanceOf => fold_instanceof(alloc, ctx, n),
         _ => Ok(None),
     }
 }

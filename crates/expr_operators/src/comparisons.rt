@@ -12,8 +12,8 @@ ghost use Rattle.expr_rules.specs.Comparisons as rules;
 ghost use Rattle.expr_operators.specs.Nodes.{binary_of};
 ghost use Rattle.expr_operators.specs.Steps.{Stands, TruthStep};
 
-use crate::operands::truth_expr;
 use crate::names::beside_itself;
+use crate::operands::truth_expr;
 use crate::texts::{is_text, is_text_before, plain_text};
 use std::alloc::{AllocError, Global};
 use swc_ast::{BinExpr, BinaryOp, Expr, PassError};
@@ -84,14 +84,15 @@ fn texts_compared(
     left: &Expr,
     right: &Expr,
 ) -> Result<Value<bool>, PassError>
-    ensures {
-        rules.is_comparison op ≡ true
+    ensures { rules.is_comparison op ≡ true
         → types.type_of (unresolved ctx.now) (expr_tree left.now) ≡ Some TextType
         → types.type_of (unresolved ctx.now) (expr_tree right.now) ≡ Some TextType
-        → IfOk result (λ v. IfKnown v (λ r. TruthStep (unresolved ctx.now) op (expr_tree left.now) (expr_tree right.now) r))
-    }
+        → IfOk result (λ v. IfKnown v (λ r. TruthStep (unresolved ctx.now) op (expr_tree left.now) (expr_tree right.now) r)) }
 {
-    match (plain_text(alloc, ctx, left)?, plain_text(alloc, ctx, right)?) {
+    match (
+        plain_text(alloc, ctx, left)?,
+        plain_text(alloc, ctx, right)?,
+    ) {
         (Value::Known(a), Value::Known(b)) => Ok(Value::Known(compare_texts(alloc, op, &a, &b)?)),
         _ => Ok(Value::Unknown),
     }

@@ -11,8 +11,8 @@ ghost use Rattle.expr_rules.specs.Values.{number_of, text_value, truth_of_known}
 ghost use Rattle.expr_operators.specs.Nodes.{binary_of};
 ghost use Rattle.expr_operators.specs.Steps.{Stands};
 
-use crate::operands::{behind_operands, truth_expr};
 use crate::names::beside_itself;
+use crate::operands::{behind_operands, truth_expr};
 use crate::texts::plain_text;
 use std::alloc::Global;
 use swc_ast::{BinExpr, BinaryOp, Expr, PassError};
@@ -101,11 +101,9 @@ fn alike_known(
     right: &Expr,
     kind: ValueType,
 ) -> Result<Value<bool>, PassError>
-    ensures {
-        type_of (unresolved ctx.now) (expr_tree left.now) ≡ Some kind
+    ensures { type_of (unresolved ctx.now) (expr_tree left.now) ≡ Some kind
         → type_of (unresolved ctx.now) (expr_tree right.now) ≡ Some kind
-        → IfOk result (λ r. known r ≡ rules.alike_known (unresolved ctx.now) (expr_tree left.now) (expr_tree right.now) kind)
-    }
+        → IfOk result (λ r. known r ≡ rules.alike_known (unresolved ctx.now) (expr_tree left.now) (expr_tree right.now) kind) }
 {
     match kind {
         ValueType::Undefined => Ok(Value::Known(true)),

@@ -87,6 +87,5 @@ fn is_bounded(op: BinaryOp, right: &Expr) -> bool
 pub(crate) fn admits(op: BinaryOp, left: &Expr, right: &Expr, number: Option<i64>) -> bool
     ensures { result ≡ rules.admits op (expr_tree left.now) (expr_tree right.now) (numeric number) }
 {
-    !is_bounded(op, right)
-        || is_short_enough(span_of(left), span_of(right), number_length(number))
+    !is_bounded(op, right) || is_short_enough(span_of(left), span_of(right), number_length(number))
 }

@@ -8,6 +8,7 @@ mod bits;
 mod choices;
 mod comparisons;
 mod equality;
+mod instances;
 mod length;
 mod literals;
 mod names;

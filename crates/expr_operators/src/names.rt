@@ -75,12 +75,7 @@ fn typeof_name(e: &Expr) -> Option<&Ident>
 
 /// What an operator gives of a bound name beside itself, or of its type beside itself.
 #[tactic(auto, using(crate::proofs::Beside::name_step, crate::proofs::Beside::type_step))]
-pub(crate) fn beside_itself(
-    ctx: &ExprCtx,
-    op: BinaryOp,
-    left: &Expr,
-    right: &Expr,
-) -> Option<bool>
+pub(crate) fn beside_itself(ctx: &ExprCtx, op: BinaryOp, left: &Expr, right: &Expr) -> Option<bool>
     ensures { IfSome result (λ r. TruthStep (unresolved ctx.now) op (expr_tree left.now) (expr_tree right.now) r) }
 {
     if let (Some(a), Some(b)) = (read_name(left), read_name(right)) {

@@ -1,6 +1,6 @@
 //! What folds take and make: operands moved out of their nodes, and expressions of known values.
 ghost use Rattle.std.specs.Prelude.{◌≡◌, IfOk, [], ◌∷◌, string_bytes};
-ghost use Rattle.swc_ast.specs.Tree.{Seq, node, ε, ◌⊳◌};
+ghost use Rattle.swc_ast.specs.Tree.{Binary, Seq, node, ε, ◌⊳◌};
 ghost use Rattle.swc_ast.specs.Views.{expr_tree};
 ghost use Rattle.swc_utils.specs.Effects.{effects_all, preserve};
 ghost use Rattle.swc_utils.specs.Globals.{unresolved};
@@ -10,8 +10,8 @@ ghost use Rattle.expr_rules.specs.Leaves as leaves;
 use std::alloc::{AllocError, Global};
 use std::mem;
 use swc_ast::{
-    BinExpr, Bool, Expr, Ident, Invalid, Lit, Number, PassError, SeqExpr, Span, Str, UnaryExpr,
-    UnaryOp,
+    BinExpr, BinaryOp, Bool, Expr, Ident, Invalid, Lit, Number, PassError, SeqExpr, Span, Str,
+    UnaryExpr, UnaryOp,
 };
 use swc_utils::{ExprCtx, preserve_effects};
 
@@ -75,6 +75,26 @@ pub(crate) fn sequence(
 {
     let exprs = vec![in alloc; first, second]?;
     Ok(Expr::Seq(SeqExpr { span, exprs }))
+}
+
+/// An operator between two operands.
+pub(crate) fn binary_expr(
+    alloc: Global,
+    span: Span,
+    op: BinaryOp,
+    left: Expr,
+    right: Expr,
+) -> Result<Expr, AllocError>
+    ensures { IfOk result (λ r. expr_tree r ≡ node (Binary op) (span ∷ []) (expr_tree left ⊳ expr_tree right ⊳ ε)) }
+{
+    let left = Box::new(alloc, left)?;
+    let right = Box::new(alloc, right)?;
+    Ok(Expr::Bin(BinExpr {
+        span,
+        op,
+        left,
+        right,
+    }))
 }
 
 /// A value behind the effects of a node's operand.

@@ -96,11 +96,7 @@ pub(crate) fn is_text(ctx: &ExprCtx, e: &Expr) -> bool
 }
 
 /// The text of an expression, unless it has a vertical tab.
-pub(crate) fn plain_text(
-    alloc: Global,
-    ctx: &ExprCtx,
-    e: &Expr,
-) -> Result<Value<String>, PassError>
+pub(crate) fn plain_text(alloc: Global, ctx: &ExprCtx, e: &Expr) -> Result<Value<String>, PassError>
     ensures text { IfOk result (λ r. IfKnown r (λ s. text (unresolved ctx.now) (expr_tree e.now) ≡ Some (string_bytes s))) }
     ensures value { IfOk result (λ r. text_value (known_text r) ≡ compared (unresolved ctx.now) (expr_tree e.now) TextType (text_value (text (unresolved ctx.now) (expr_tree e.now)))) }
 {

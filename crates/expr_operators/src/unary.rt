@@ -24,11 +24,7 @@ use swc_utils::{ExprCtx, ExprExt, Value};
 
 /// `!a` of known truth: the other truth, behind the effects of `a`. `!` of a number literal stays.
 #[tactic(auto, using(crate::proofs::UnarySteps::not_step))]
-fn fold_not(
-    alloc: Global,
-    ctx: &ExprCtx,
-    n: &mut UnaryExpr,
-) -> Result<Option<Expr>, PassError>
+fn fold_not(alloc: Global, ctx: &ExprCtx, n: &mut UnaryExpr) -> Result<Option<Expr>, PassError>
     ensures steps { IfOk result (λ o. Stands (unresolved ctx.now) (unary_at op.Bang n.old) o) }
     ensures kept { IfOk result (λ o. IsNone o → n.new ≡ n.old) }
     ensures finished { IfOk result (λ o. IsNone o → redex.unary_redex op.Bang (expr_tree n.old.arg.value) ≡ false) }
@@ -153,11 +149,7 @@ fn type_word(e: &Expr) -> Option<&'static str>
 
 /// `typeof a` of the host's `undefined`, and of a pure expression whose form tells its type: the name of the type.
 #[tactic(auto, using(crate::proofs::UnarySteps::undefined_step, crate::proofs::UnarySteps::typeof_step))]
-fn fold_typeof(
-    alloc: Global,
-    ctx: &ExprCtx,
-    n: &mut UnaryExpr,
-) -> Result<Option<Expr>, PassError>
+fn fold_typeof(alloc: Global, ctx: &ExprCtx, n: &mut UnaryExpr) -> Result<Option<Expr>, PassError>
     ensures steps { IfOk result (λ o. Stands (unresolved ctx.now) (unary_at op.TypeOf n.old) o) }
     ensures kept { IfOk result (λ o. IsNone o → n.new ≡ n.old) }
     ensures finished { IfOk result (λ o. IsNone o → redex.is_simple_literal (expr_tree n.old.arg.value) ≡ false) }

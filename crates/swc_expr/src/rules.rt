@@ -9,7 +9,7 @@ ghost use Rattle.swc_expr.specs.Simplifies.{Rests, simplify_pass};
 
 use crate::defaults::drop_default;
 use crate::places::{is_shield, shielded};
-use expr_members::{fold_sequence, spread_items, spread_properties};
+use expr_members::{fold_member, fold_sequence, spread_items, spread_properties};
 use expr_operators::{fold_binary, fold_condition, fold_unary};
 use std::alloc::{AllocError, Global};
 use swc_ast::{Expr, ModuleItem, Pat, PassError, Stmt, UnaryOp};
@@ -28,6 +28,14 @@ fn is_callee(place: Place) -> bool {
     match place {
         Place::Callee => true,
         Place::Value | Place::Statement | Place::TypeOf | Place::Delete | Place::Part => false,
+    }
+}
+
+/// Whether a member is read for its value alone: not in a callee, and not where it is written.
+fn is_read(place: Place) -> bool {
+    match place {
+        Place::Value | Place::Statement | Place::TypeOf => true,
+        Place::Callee | Place::Delete | Place::Part => false,
     }
 }
 
@@ -58,7 +66,12 @@ impl ExprRules {
             Expr::Seq(n) => Ok(fold_sequence(self.alloc, &self.ctx, is_callee(place), n)?),
             Expr::Array(n) => Ok(spread_items(self.alloc, n)?),
             Expr::Object(n) => Ok(spread_properties(self.alloc, n)?),
-            Expr::Member(_) => Ok(None),
+            Expr::Member(n) => {
+                if !is_read(place) {
+                    return Ok(None);
+                }
+                fold_member(self.alloc, &self.ctx, n)
+            }
             Expr::Call(_) => Ok(None),
             Expr::This(_)
             | Expr::Fn(_)

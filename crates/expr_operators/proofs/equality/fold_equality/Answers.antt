@@ -9,6 +9,6 @@ use Rattle.expr_operators.proofs.equality.fold_equality.Goals as goal
 pub returns-in_ok-behind_operands-in-Known-clause-steps : goal.returns-in_ok-behind_operands-in-Known-clause-steps
 returns-in_ok-behind_operands-in-Known-clause-steps c = λ q.
     equality_step (unresolved c.args.ctx.now) c.args.n.now.op c.args.n.now.span (expr_tree c.args.n.now.left.value) (expr_tree c.args.n.now.right.value) _ _ c.in-Known.equal q
-      (cc (c.deref-3.ensures, c.deref-4.ensures, c.in_ok-equal.ensures, ap known c.in-Known.is))
-      (c.truth_expr-value.ensures ∙ ap (truth_tree (c.args.n.now.span ∷ [])) c.tell.ensures)
-      c.in_ok-behind_operands-in-Known.ensures
+    (cc (c.deref-3.ensures, c.deref-4.ensures, c.in_ok-equal.ensures, ap known c.in-Known.is))
+    (c.truth_expr-value.ensures ∙ ap (truth_tree (c.args.n.now.span ∷ [])) c.tell.ensures)
+    c.in_ok-behind_operands-in-Known.ensures

@@ -1,4 +1,4 @@
-use Rattle.std.proofs.Common.{◌≡◌, false, not, ◌&&◌, refl, sym, ap, ◌∙◌, subst}
+use Rattle.std.proofs.Common.{not, ◌&&◌, sym, ap, ◌∙◌}
 use Rattle.std.proofs.lemmas.Bool.{not-true}
 use Rattle.swc_ast.specs.Redex.{is_simple_literal, is_zero}
 use Rattle.swc_ast.proofs.Places.{at_expr-Invalid, at_expr-Seq}

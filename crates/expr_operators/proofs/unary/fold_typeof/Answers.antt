@@ -12,7 +12,7 @@ returns-in_ok-behind_operand-in-Some-clause-steps c =
     let mark = unresolved c.args.ctx.now in
     let at = ap expr_tree c.deref-3.ensures in
     typeof_step mark c.args.n.now.span (expr_tree c.args.n.now.arg.value) _ _ c.in-Some.word.now
-      (sym (ap is_read at) ∙ c.in-Some.ensures.no_name)
-      (sym (ap (typeof_known mark) at) ∙ c.in-Some.ensures.known mark)
-      (c.text_expr-value.ensures ∙ ap (text_tree (c.args.n.now.span ∷ [])) c.in_ok-text-in-Some.ensures.ok)
-      c.in_ok-behind_operand-in-Some.ensures
+    (sym (ap is_read at) ∙ c.in-Some.ensures.no_name)
+    (sym (ap (typeof_known mark) at) ∙ c.in-Some.ensures.known mark)
+    (c.text_expr-value.ensures ∙ ap (text_tree (c.args.n.now.span ∷ [])) c.in_ok-text-in-Some.ensures.ok)
+    c.in_ok-behind_operand-in-Some.ensures

@@ -1,6 +1,6 @@
-use Rattle.std.proofs.Common.{refl, sym, ap, ◌∙◌, Some}
+use Rattle.std.proofs.Common.{sym, ap, ◌∙◌, Some}
 use Rattle.swc_ast.specs.Redex.{is_simple_literal}
-use Rattle.swc_ast.proofs.Places.{at_expr-This, at_expr-Array, at_expr-Object, at_expr-Fn, at_expr-Unary, at_expr-Update, at_expr-Assign, at_expr-Member, at_expr-Call, at_expr-Lit}
+use Rattle.swc_ast.proofs.Places.{at_expr-Array, at_expr-Object, at_expr-Fn, at_expr-Unary, at_expr-Update, at_expr-Assign, at_expr-Member, at_expr-Call, at_expr-Lit}
 use Rattle.swc_utils.specs.Effects.{is_read}
 use Rattle.swc_utils.proofs.EffectNodes.{read-lit, read-unary}
 use Rattle.swc_utils.proofs.LiteralNodes.{literal-unary, literal-call, literal-update, literal-assign, literal-member}

@@ -4,7 +4,7 @@ use Rattle.swc_ast.specs.Expressions.{item_trees}
 use Rattle.swc_ast.specs.Parts.{list_trees}
 use Rattle.swc_ast.specs.Scope.{joined}
 use Rattle.swc_ast.specs.Views.{expr_tree}
-use Rattle.expr_members.proofs.sequences.push_items.Given as goal
+use Rattle.expr_members.proofs.arrays.push_items.Given as goal
 
 abbrev pub invariant-loop-item : goal.invariant-loop-item
 invariant-loop-item l = joined (list_trees expr_tree l.out.items) (item_trees expr_tree (into_iter_items l.item-iterator)) ≡ joined (list_trees expr_tree l.fn.out.items) (item_trees expr_tree l.fn.items.items)

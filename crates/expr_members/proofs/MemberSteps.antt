@@ -1,0 +1,86 @@
+-- What takes the place of a member of a literal.
+use Rattle.std.proofs.Common.{◌≡◌, ℕ, suc, ◌+◌, ◌-◌, ◌<◌, ◌≤◌, Bool, true, false, if◌then◌else◌, List, [], ◌∷◌, length, take, drop, length-drop, Option, Some, None, Result, Ok, Err, refl, sym, ap, subst, ◌∙◌, arith, string_bytes}
+use Rattle.std.specs.Prelude.{IfOk, IfSome, MatchOption, chars, codes, slice_get}
+use Rattle.std.proofs.lemmas.List.{take_all}
+use Rattle.swc_ast.specs.Operators.{if_some, index_of, units}
+use Rattle.swc_ast.specs.Parts.{word_text}
+use Rattle.swc_ast.specs.Tree.{Array, StrLit, Tree, node, ε}
+use Rattle.swc_ast.specs.Views.{expr_tree}
+use Rattle.swc_ast.specs.Expressions.{array_tree, member_node}
+use Rattle.swc_ast.proofs.Equations.{expr_tree-Array}
+use Rattle.swc_ast.specs.declared.expressions.ArrayLit.{ArrayLit}
+use Rattle.swc_ast.specs.declared.expressions.Expr.TheVariants as in_expr
+use Rattle.expr_rules.specs.Replaced.{Replaced}
+use Rattle.swc_ast.specs.declared.Span.{Span}
+use Rattle.swc_ast.specs.declared.names.IdentName.{IdentName}
+use Rattle.swc_ast.specs.declared.expressions.ComputedPropName.{ComputedPropName}
+use Rattle.swc_ast.specs.declared.expressions.Expr.{Expr}
+use Rattle.swc_ast.specs.declared.expressions.MemberProp.{MemberProp}
+use Rattle.swc_ast.specs.declared.expressions.MemberProp.TheVariants as prop
+use Rattle.swc_utils.specs.Pure.{has_spread, pure_all}
+use Rattle.expr_rules.specs.ExprSteps.{ExprStep, MemberOf, by_dot, by_key, text_length, text_character, array_length, array_item}
+use Rattle.expr_rules.specs.Leaves.{key_text_of, void_tree}
+use Rattle.expr_rules.specs.Members.{all_basic, array_at, character, length_of, text_at}
+use Rattle.expr_members.specs.Members.{StandsFor, IsKey, IsLength, IsCharacter, IsItem, character_at}
+use Rattle.expr_members.proofs.Opened.{Item, kinds_of, trees_of}
+use Rattle.expr_members.proofs.Indexed.{item_is}
+
+-- what holds of an answer, where there is one
+
+pub answered : {A E : Type 0} {P Q : A → Type 0} (r : Result (Option A) E) → ((a : A) → P a → Q a) → IfOk r (λ o. IfSome o P) → IfOk r (λ o. IfSome o Q)
+answered (Ok None) f h = h
+answered (Ok (Some a)) f h = f a h
+answered (Err e) f h = h
+
+pub answered_or : {A E : Type 0} (P : Type 0) {Q R : A → Type 0} (r : Result (Option A) E) → ((a : A) → Q a → R a) → IfOk r (λ o. MatchOption o P Q) → IfOk r (λ o. MatchOption o P R)
+answered_or P (Ok None) f h = h
+answered_or P (Ok (Some a)) f h = f a h
+answered_or P (Err e) f h = h
+
+-- keys
+
+pub word_key : (p : MemberProp Expr) (n : IdentName) (k : List ℕ) → p ≡ prop.Ident n → k ≡ word_text n → IsKey p k
+word_key p n k is text = subst (λ q. IsKey q k) (sym is) (subst (IsKey (prop.Ident n)) (sym text) (λ s o. by_dot (s ∷ n.span ∷ [])))
+
+pub literal_key : (p : MemberProp Expr) (n : ComputedPropName Expr) (e : Expr) (k : List ℕ) → p ≡ prop.Computed n → e ≡ n.expr.value → key_text_of (expr_tree e) ≡ Some k → IsKey p k
+literal_key p n e k is inner text = subst (λ q. IsKey q k) (sym is) (λ s o. by_key (s ∷ n.span ∷ []) (ap (λ f. key_text_of (expr_tree f)) (sym inner) ∙ text))
+
+-- texts
+
+pub text_length_stands : (mark : ℕ) (s : Span) (is : List Span) (t key : List ℕ) (e : Expr) → key ≡ codes "length" → IsLength s (length (units t)) e → StandsFor mark (node (StrLit t) is ε) key e
+text_length_stands mark s is t key e named h = λ m of. subst (ExprStep mark m) (sym h.0) (text_length is (s ∷ []) t (subst (MemberOf m (node (StrLit t) is ε)) named of) h.1)
+
+text_at_is : (t k u : List ℕ) (i : ℕ) → index_of k ≡ Some i → character_at t i ≡ Some u → text_at t k ≡ Some u
+text_at_is t k u i index at = ap (λ o. if all_basic (chars t) then if_some o (λ j. if_some (slice_get (chars t) j) character) else None) index ∙ at
+
+pub character_stands : (mark : ℕ) (s : Span) (is : List Span) (t key : List ℕ) (i : ℕ) (e : Expr) → index_of key ≡ Some i → IsCharacter s t i e → StandsFor mark (node (StrLit t) is ε) key e
+character_stands mark s is t key i e index (u, at, char) = λ m of. subst (ExprStep mark m) (sym at) (text_character is (s ∷ []) t key u of (text_at_is t key u i index char))
+
+-- arrays
+
+pub array_length_stands : {P : Type 0} (mark : ℕ) (s : Span) (ss : List Span) (xs : List Item) (key : List ℕ) (r : Option Expr) → P → key ≡ codes "length" → has_spread (kinds_of xs) ≡ false → IfSome r (λ e. IsLength s (length_of (trees_of xs)) e) → IfSome r (λ e. pure_all mark (trees_of xs) ≡ true) → MatchOption r P (λ e. StandsFor mark (node (Array (kinds_of xs)) ss (trees_of xs)) key e)
+array_length_stands mark s ss xs key None same named plain h clean = same
+array_length_stands mark s ss xs key (Some e) same named plain h clean = λ m of. subst (ExprStep mark m) (sym h.0) (array_length ss (s ∷ []) (kinds_of xs) (trees_of xs) (subst (MemberOf m (node (Array (kinds_of xs)) ss (trees_of xs))) named of) clean plain h.1)
+
+-- what is behind an index, to the end
+pub behind_all : (ys : List Item) (j : ℕ) → take (length ys - j) (drop j ys) ≡ drop j ys
+behind_all ys j = take_all (length ys - j) (drop j ys) (omega (arith, length-drop j ys))
+
+pub item_found : (mark : ℕ) (s : Span) (xs : List Item) (i : ℕ) (e : Expr) → i < length xs → has_spread (kinds_of xs) ≡ false → pure_all mark (trees_of (drop (i + 1) xs)) ≡ true → IsItem mark s xs i e → array_at mark (s ∷ []) (void_tree (s ∷ []) (s ∷ [])) (kinds_of xs) (trees_of xs) i ≡ Some (expr_tree e)
+item_found mark s xs i e within plain clean (x, at, is) = item_is mark (s ∷ []) (void_tree (s ∷ []) (s ∷ [])) xs i x within at plain (ap (λ j. pure_all mark (trees_of (drop j xs))) (next i) ∙ clean) ∙ ap Some (sym is)
+  where
+    next : (j : ℕ) → suc j ≡ j + 1
+    next j = omega arith
+
+pub item_stands : (mark : ℕ) (s : Span) (ss : List Span) (xs : List Item) (key : List ℕ) (i : ℕ) (e : Expr) → index_of key ≡ Some i → array_at mark (s ∷ []) (void_tree (s ∷ []) (s ∷ [])) (kinds_of xs) (trees_of xs) i ≡ Some (expr_tree e) → StandsFor mark (node (Array (kinds_of xs)) ss (trees_of xs)) key e
+item_stands mark s ss xs key i e index at = λ m of. array_item ss (s ∷ []) (s ∷ []) (s ∷ []) (kinds_of xs) (trees_of xs) key i (expr_tree e) of index at
+
+-- the object of a member, as it was or taken apart
+
+pub array_arm : (mark : ℕ) (key : List ℕ) {old new : Expr} {n k : ArrayLit Expr} (m : ArrayLit Expr) (o : Option Expr) → old ≡ in_expr.Array n → k ≡ n → new ≡ in_expr.Array m → MatchOption o (m ≡ k) (λ e. StandsFor mark (array_tree expr_tree k) key e) → MatchOption o (new ≡ old) (λ e. StandsFor mark (expr_tree old) key e)
+array_arm mark key m None is same after h = after ∙ ap in_expr.Array (h ∙ same) ∙ sym is
+array_arm mark key m (Some e) is same after h = subst (λ t. StandsFor mark t key e) (ap (array_tree expr_tree) same ∙ sym (expr_tree-Array _) ∙ sym (ap expr_tree is)) h
+
+pub replaced : (mark : ℕ) (s : Span) (x y : Expr) (p : MemberProp Expr) (key : List ℕ) (o : Option Expr) → IsKey p key → MatchOption o (y ≡ x) (λ e. StandsFor mark (expr_tree x) key e) → Replaced mark (member_node expr_tree s x p) (member_node expr_tree s y p) o
+replaced mark s x y p key None named h = ap (λ z. member_node expr_tree s z p) h
+replaced mark s x y p key (Some e) named h = h (member_node expr_tree s x p) (named s x)
