@@ -3,7 +3,7 @@ ghost use Rattle.std.specs.Prelude.{◌≡◌, ◌++◌, OnOk};
 ghost use Rattle.swc_ast.specs.Meaning.{head_names, first_tree};
 ghost use Rattle.swc_ast.specs.Parts.{option_ident_name};
 ghost use Rattle.swc_ast.specs.Resolved.{first_names, declared_names, catch_name};
-ghost use Rattle.swc_ast.specs.Scope.{holds_statements as is_holder, own_vars, declarator_name as label_declarator, param_name as label_param, imported_name as label_imported, option_name};
+ghost use Rattle.swc_ast.specs.Scope.{own_vars, declarator_name as label_declarator, param_name as label_param, imported_name as label_imported, option_name};
 ghost use Rattle.swc_ast.specs.Statements.{handler_param};
 ghost use Rattle.swc_ast.specs.Tree.{ε};
 ghost use Rattle.swc_visit.specs.Kinds.{kind_label};
@@ -63,7 +63,7 @@ fn add_names_of<'a>(names: &mut Vec<Name<'a>>, n: Node<'a>, part: Part) -> Resul
     let opened = n.open();
     match part {
         Part::Vars => {
-            if holds_statements(opened.kind) {
+            if opened.kind.holds_statements() {
                 return add_names(names, opened.children, Part::Vars);
             }
             add_optional(names, own_var(opened.kind))
@@ -131,25 +131,6 @@ fn is_export(kind: Kind<'_>) -> bool
 {
     match kind {
         Kind::ExportDecl => true,
-        _ => false,
-    }
-}
-
-fn holds_statements(kind: Kind<'_>) -> bool
-    ensures { result ≡ is_holder (kind_label kind.entry) }
-{
-    match kind {
-        Kind::Block
-        | Kind::If
-        | Kind::While
-        | Kind::DoWhile
-        | Kind::For
-        | Kind::Labeled(_)
-        | Kind::Switch(_)
-        | Kind::CaseBody
-        | Kind::Try(_)
-        | Kind::VarDecl(_)
-        | Kind::ExportDecl => true,
         _ => false,
     }
 }
