@@ -37,33 +37,78 @@ const FOLDED: [(&str, &str); 43] = [
     ("f(1 + 2);", "f(3);\n"),
     ("f(~4294967296);", "f(-1);\n"),
     ("f(~0, ~-1, ~2147483648);", "f(-1, 0, 2147483647);\n"),
-    ("f(6 & 3, 6 | 3, 6 ^ 3, 1 << 33, -8 >> 1, -1 >>> 28);", "f(2, 7, 5, 2, -4, 15);\n"),
-    ("f(7 % 3, -7 % 3, 2 ** 5, 6 / 3, 2 - 3, 2 * 3);", "f(1, -1, 32, 2, -1, 6);\n"),
+    (
+        "f(6 & 3, 6 | 3, 6 ^ 3, 1 << 33, -8 >> 1, -1 >>> 28);",
+        "f(2, 7, 5, 2, -4, 15);\n",
+    ),
+    (
+        "f(7 % 3, -7 % 3, 2 ** 5, 6 / 3, 2 - 3, 2 * 3);",
+        "f(1, -1, 32, 2, -1, 6);\n",
+    ),
     ("f(+'3', +true, +null, +' 12 ');", "f(3, 1, 0, 12);\n"),
     ("f(+undefined, -NaN);", "f(NaN, NaN);\n"),
     ("f('4' * '5', true - 1);", "f(20, 0);\n"),
     // texts
-    ("f('a' + 'b', 'a' + 1, null + 'a', true + '');", "f('ab', 'a1', 'nulla', 'true');\n"),
+    (
+        "f('a' + 'b', 'a' + 1, null + 'a', true + '');",
+        "f('ab', 'a1', 'nulla', 'true');\n",
+    ),
     // truths
-    ("f(!'', !'a', !null, !undefined, ![]);", "f(true, false, true, true, false);\n"),
+    (
+        "f(!'', !'a', !null, !undefined, ![]);",
+        "f(true, false, true, true, false);\n",
+    ),
     ("f(![g()]);", "f((g(), false));\n"),
     // `void` and `typeof`
-    ("f(void 5, void 'a', void x); let x;", "f(void 0, void 0, void 0);\nlet x;\n"),
-    ("f(typeof null, typeof 'bar', typeof 6, typeof true);", "f('object', 'string', 'number', 'boolean');\n"),
-    ("f(typeof undefined, typeof [], typeof {}, typeof function () {});", "f('undefined', 'object', 'object', 'function');\n"),
+    (
+        "f(void 5, void 'a', void x); let x;",
+        "f(void 0, void 0, void 0);\nlet x;\n",
+    ),
+    (
+        "f(typeof null, typeof 'bar', typeof 6, typeof true);",
+        "f('object', 'string', 'number', 'boolean');\n",
+    ),
+    (
+        "f(typeof undefined, typeof [], typeof {}, typeof function () {});",
+        "f('undefined', 'object', 'object', 'function');\n",
+    ),
     // comparisons
-    ("f(1 < 2, 2 <= 1, 'a' < 'b', 'b' >= 'c', '2' > 1);", "f(true, false, true, false, true);\n"),
+    (
+        "f(1 < 2, 2 <= 1, 'a' < 'b', 'b' >= 'c', '2' > 1);",
+        "f(true, false, true, false, true);\n",
+    ),
     ("g('\\uFF61' < '\\u{1F600}');", "g(false);\n"),
     ("f(NaN < 1, undefined >= 0);", "f(false, false);\n"),
-    ("let x = g(); f(x < x, x > x);", "let x = g();\nf(false, false);\n"),
-    ("let x = g(); f(typeof x < typeof x, typeof x === typeof x);", "let x = g();\nf(false, true);\n"),
+    (
+        "let x = g(); f(x < x, x > x);",
+        "let x = g();\nf(false, false);\n",
+    ),
+    (
+        "let x = g(); f(typeof x < typeof x, typeof x === typeof x);",
+        "let x = g();\nf(false, true);\n",
+    ),
     // equality
-    ("f(null == undefined, null === undefined, 1 == '1', 1 === '1');", "f(true, false, true, false);\n"),
-    ("f(NaN === NaN, NaN !== NaN, 'a' != 'a', true == 1);", "f(false, true, false, true);\n"),
-    ("f([g()] === null, void g() == null);", "f((g(), false), (g(), true));\n"),
+    (
+        "f(null == undefined, null === undefined, 1 == '1', 1 === '1');",
+        "f(true, false, true, false);\n",
+    ),
+    (
+        "f(NaN === NaN, NaN !== NaN, 'a' != 'a', true == 1);",
+        "f(false, true, false, true);\n",
+    ),
+    (
+        "f([g()] === null, void g() == null);",
+        "f((g(), false), (g(), true));\n",
+    ),
     // choices
-    ("f((x = 0) || h, 1 && a, 0 && a, 'a' || b);", "f((x = 0, h), a, 0, 'a');\n"),
-    ("f(1 ? a : b, '' ? a : b, [g()] ? a : b);", "f(a, b, ([g()], a));\n"),
+    (
+        "f((x = 0) || h, 1 && a, 0 && a, 'a' || b);",
+        "f((x = 0, h), a, 0, 'a');\n",
+    ),
+    (
+        "f(1 ? a : b, '' ? a : b, [g()] ? a : b);",
+        "f(a, b, ([g()], a));\n",
+    ),
     // sequences
     ("f((1, [a], b), (1, 'a', b));", "f((a, b), b);\n"),
     ("f((a, 1, [b, , c], d));", "f((a, b, c, d));\n"),
@@ -77,16 +122,40 @@ const FOLDED: [(&str, &str); 43] = [
     ("f(typeof (1, x));", "f(typeof (0, x));\n"),
     ("(1 ? a[b] : c)(1 + 2);", "(0, a[b])(3);\n"),
     // defaults
-    ("function f(a = undefined, b = void 1, c = 1) {}", "function f(a, b, c = 1) {}\n"),
-    ("f((a = void 0) => a, {m(b = undefined) {}});", "f((a) => a, {m(b) {}});\n"),
+    (
+        "function f(a = undefined, b = void 1, c = 1) {}",
+        "function f(a, b, c = 1) {}\n",
+    ),
+    (
+        "f((a = void 0) => a, {m(b = undefined) {}});",
+        "f((a) => a, {m(b) {}});\n",
+    ),
     // children first
-    ("f(-(1 + 2), !(1 < 2), (1 + 1) * (2 + 2));", "f(-3, false, 8);\n"),
+    (
+        "f(-(1 + 2), !(1 < 2), (1 + 1) * (2 + 2));",
+        "f(-3, false, 8);\n",
+    ),
     ("if (1 + 1) f(`${1 + 2}`);", "if (2) f(`${3}`);\n"),
-    ("x[1 + 2] = {[1 + 3]: 1 + 4}; x[1 + 5]++;", "x[3] = {[4]: 5};\nx[6]++;\n"),
-    ("switch (1 + 2) { case 1 + 3: f(1 + 4); }", "switch (3) { case 4: f(5); }\n"),
-    ("for (let i = 1 + 2; i < 1 + 3; i = i + 1) f(2 * 3);", "for (let i = 3; i < 4; i = i + 1) f(6);\n"),
-    ("try { f(1 + 2); } catch (e) { f(1 + 3); }", "try { f(3); } catch (e) { f(4); }\n"),
-    ("let f = function () { return 1 + 2; };", "let f = function () { return 3; };\n"),
+    (
+        "x[1 + 2] = {[1 + 3]: 1 + 4}; x[1 + 5]++;",
+        "x[3] = {[4]: 5};\nx[6]++;\n",
+    ),
+    (
+        "switch (1 + 2) { case 1 + 3: f(1 + 4); }",
+        "switch (3) { case 4: f(5); }\n",
+    ),
+    (
+        "for (let i = 1 + 2; i < 1 + 3; i = i + 1) f(2 * 3);",
+        "for (let i = 3; i < 4; i = i + 1) f(6);\n",
+    ),
+    (
+        "try { f(1 + 2); } catch (e) { f(1 + 3); }",
+        "try { f(3); } catch (e) { f(4); }\n",
+    ),
+    (
+        "let f = function () { return 1 + 2; };",
+        "let f = function () { return 3; };\n",
+    ),
     ("f([...a, ...[...b]].length);", "f([...a, ...b].length);\n"),
 ];
 

@@ -56,7 +56,13 @@ pub(crate) fn shielded(alloc: Global, place: Place, e: Expr) -> Result<Expr, All
     if fits(place, &e) {
         return Ok(e);
     }
-    let zero = Expr::Lit(Lit::Num(Number { span: NOWHERE, value: 0 }));
+    let zero = Expr::Lit(Lit::Num(Number {
+        span: NOWHERE,
+        value: 0,
+    }));
     let exprs = vec![in alloc; zero, e]?;
-    Ok(Expr::Seq(SeqExpr { span: NOWHERE, exprs }))
+    Ok(Expr::Seq(SeqExpr {
+        span: NOWHERE,
+        exprs,
+    }))
 }

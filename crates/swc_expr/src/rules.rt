@@ -12,7 +12,7 @@ use crate::places::{is_shield, shielded};
 use expr_members::{fold_member, fold_sequence, spread_items, spread_properties};
 use expr_operators::{fold_binary, fold_condition, fold_unary};
 use std::alloc::{AllocError, Global};
-use swc_ast::{Expr, ModuleItem, Pat, PassError, Stmt, UnaryOp};
+use swc_ast::{Expr, ModuleItem, PassError, Pat, Stmt, UnaryOp};
 use swc_utils::ExprCtx;
 use swc_walk::{ListPlace, Place, Rules};
 
