@@ -14,7 +14,7 @@ use Rattle.swc_ast.specs.declared.expressions.Expr.{Expr}
 use Rattle.swc_ast.specs.declared.expressions.ExprOrSpread.{ExprOrSpread}
 use Rattle.swc_utils.specs.Literals.{is_literal}
 use Rattle.swc_utils.specs.Pure.{has_spread}
-use Rattle.swc_utils.proofs.Chains.{joined_none, joined_assoc}
+use Rattle.swc_utils.proofs.Chains.{joined_assoc}
 use Rattle.expr_rules.specs.Sequences.{is_bound_name, array_opened, front_item, front_folded, folds, some_folds}
 use Rattle.expr_rules.specs.Spreads.{is_array}
 use Rattle.expr_members.specs.Arrays.{is_plain_array, HasItems}

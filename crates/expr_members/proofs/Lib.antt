@@ -3,6 +3,7 @@ pub mod Turns
 pub mod Fronts
 pub mod Opened
 pub mod Props
+pub mod Named
 pub mod Indices
 pub mod Indexed
 pub mod MemberSteps

@@ -1,5 +1,5 @@
 -- What the tree of an expression is not, where the expression is of another variant.
-use Rattle.std.proofs.Common.{◌≡◌, ℕ, Bool, false, ◌==◌, refl, sym, ap, ◌∙◌}
+use Rattle.std.proofs.Common.{◌≡◌, ℕ, false, ◌==◌, refl, sym, ap, ◌∙◌}
 use Rattle.swc_ast.specs.Tree as tree
 use Rattle.swc_ast.specs.Tree.{Tree, node}
 use Rattle.swc_ast.specs.Redex.{is_text}
@@ -19,7 +19,7 @@ use Rattle.swc_ast.specs.declared.expressions.PropOrSpread.{PropOrSpread}
 use Rattle.expr_rules.specs.Sequences.{is_bound_name}
 use Rattle.expr_rules.specs.Spreads.{is_array}
 use Rattle.expr_members.specs.Arrays.{is_plain_array}
-use Rattle.expr_members.specs.Objects.{is_opened_object}
+use Rattle.expr_members.specs.Objects.{is_object, is_opened_object}
 
 -- which variant an expression with a tree is
 abbrev form : Tree → ℕ
@@ -67,12 +67,19 @@ other_than_object e none = by (out-Expr e) (roll-out-Expr e)
     by (Open.Object n) r = absurd (none n (sym r ∙ in_expr.rolls-Object n))
     by o r = ap (λ x. 3 == form (expr_tree x)) (sym r) ∙ ap (λ n. 3 == n) (expr_at o)
 
+object_by_form : (t : Tree) → (3 == form t) ≡ false → is_object t ≡ false
+object_by_form (node tree.Object ss ts) h = impossible (sym h)
+object_by_form (node _ ss ts) h = refl
+
 opened_object_by_form : (t : Tree) → (3 == form t) ≡ false → is_opened_object t ≡ false
 opened_object_by_form (node tree.Object ss ts) h = impossible (sym h)
 opened_object_by_form (node _ ss ts) h = refl
 
 pub no_opened_object : (e : Expr) → ((y : ObjectLit PropOrSpread) → e ≡ in_expr.Object y → ⊥) → is_opened_object (expr_tree e) ≡ false
 no_opened_object e none = opened_object_by_form (expr_tree e) (other_than_object e none)
+
+pub no_object : (e : Expr) → ((y : ObjectLit PropOrSpread) → e ≡ in_expr.Object y → ⊥) → is_object (expr_tree e) ≡ false
+no_object e none = object_by_form (expr_tree e) (other_than_object e none)
 
 other_than_literal : (e : Expr) → ((y : Lit) → e ≡ in_expr.Lit y → ⊥) → (15 == form (expr_tree e)) ≡ false
 other_than_literal e none = by (out-Expr e) (roll-out-Expr e)

@@ -1,5 +1,5 @@
 -- The properties of an object, with those of each object literal that is spread in it.
-use Rattle.std.proofs.Common.{◌≡◌, ℕ, ◌+◌, ◌*◌, ◌%◌, ◌^◌, ◌<◌, ℤ, pos, negsuc, Bool, true, false, not, ◌&&◌, ◌||◌, ◌==◌, if◌then◌else◌, List, [], ◌∷◌, ◌++◌, bytes_eq, refl, sym, ap, subst, ◌∙◌, arith}
+use Rattle.std.proofs.Common.{◌≡◌, ℕ, ◌+◌, ◌%◌, ◌^◌, ◌<◌, ℤ, pos, negsuc, Bool, true, false, ◌&&◌, ◌||◌, ◌==◌, if◌then◌else◌, List, [], ◌∷◌, ◌++◌, bytes_eq, refl, sym, ap, subst, ◌∙◌, arith}
 use Rattle.std.specs.Fmt.{decimal, signed_decimal}
 use Rattle.std.specs.Int.Signed.{mag}
 use Rattle.std.specs.Prelude.{codes}
@@ -8,7 +8,6 @@ use Rattle.std.proofs.lemmas.Bool.Decides.{nat_tests}
 use Rattle.std.proofs.lemmas.Fmt.{decimal_by_steps}
 use Rattle.std.specs.declared.alloc.Global.{Global}
 use Rattle.std.specs.declared.vec.Vec.{Vec}
-use Rattle.swc_ast.specs.Meaning.{key_name}
 use Rattle.swc_ast.specs.Tree as tree
 use Rattle.swc_ast.specs.Tree.{SpreadRecord, Object, KeyValue, Method, Tree, node, Forest, ε, ◌⊳◌}
 use Rattle.swc_ast.specs.SameLaws.{impossible}
@@ -21,7 +20,7 @@ use Rattle.swc_ast.proofs.Equations.{expr_tree-Object, prop_or_spread_tree-Sprea
 use Rattle.swc_ast.proofs.Labels.{label}
 use Rattle.swc_ast.specs.declared.Span.{Span}
 use Rattle.swc_ast.specs.declared.declarations.Decl.TheOpen as Open
-use Rattle.swc_ast.specs.declared.declarations.Decl.TheViews.{roll-Prop, out-Prop, roll-out-Prop}
+use Rattle.swc_ast.specs.declared.declarations.Decl.TheViews.{out-Prop, roll-out-Prop}
 use Rattle.swc_ast.specs.declared.expressions.Expr.{Expr}
 use Rattle.swc_ast.specs.declared.expressions.Expr.TheVariants as in_expr
 use Rattle.swc_ast.specs.declared.expressions.ObjectLit.{ObjectLit}

@@ -6,6 +6,7 @@ mod arrays;
 mod items;
 mod keys;
 mod members;
+mod object_members;
 mod properties;
 mod sequences;
 mod spreads;

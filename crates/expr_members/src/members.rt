@@ -12,6 +12,7 @@ ghost use Rattle.expr_members.specs.Members.{StandsFor};
 use crate::arrays::is_array;
 use crate::items::array_member;
 use crate::keys::key_text;
+use crate::object_members::{is_object, object_member};
 use crate::texts::text_member;
 use std::alloc::{AllocError, Global};
 use swc_ast::{Expr, Lit, MemberExpr, PassError, Span};
@@ -83,15 +84,20 @@ fn member_of(
             let folded = array_member(alloc, ctx, span, array, key)?;
             Ok(folded)
         }
-        _ => Ok(None),
+        _ => {
+            let folded = object_member(alloc, ctx, object, key)?;
+            Ok(folded)
+        }
     }
 }
 
 /// What takes the place of a member of a literal whose key is a word or a literal: a text's length, its character at an
 /// index inside it where no character of the text lies past the basic plane; of an array without a spread its length,
 /// where all its items are pure and none is a hole, and the item at an index inside it behind the effects of those in
-/// front, where those behind are pure. None: nothing folds, and the member is as it was; else its object was moved out.
-/// Fails where memory is refused.
+/// front, where those behind are pure; of an object of `key: value` without computed keys and `__proto__` the value of a
+/// key that one property has, for an index where the values of the others are pure, for another text but `yield` where
+/// all are literals. None: nothing folds, and the member is as it was; else its object was moved out. Fails where memory
+/// is refused.
 pub fn fold_member(
     alloc: Global,
     ctx: &ExprCtx,
@@ -99,7 +105,7 @@ pub fn fold_member(
 ) -> Result<Option<Expr>, PassError>
     ensures { IfOk result (λ o. Replaced (unresolved ctx.now) (member_tree expr_tree n.old) (member_tree expr_tree n.new) o) }
 {
-    if !is_array(&n.obj) && !is_text(&n.obj) {
+    if !is_array(&n.obj) && !is_text(&n.obj) && !is_object(&n.obj) {
         return Ok(None);
     }
     match key_text(alloc, &n.prop)? {

@@ -11,6 +11,7 @@ use Rattle.swc_meaning.specs.Walks.{no_names}
 use Rattle.swc_meaning.proofs.Quiet.{declares_nothing, fits_nothing}
 use Rattle.swc_static.specs.Drawn.{is_expression}
 use Rattle.swc_static.specs.Names.{label_of}
+use Rattle.swc_static.specs.Vars.{is_top}
 use Rattle.swc_static.specs.Step.{Step}
 use Rattle.swc_static.proofs.Expressions.{expression_step}
 use Rattle.expr_rules.specs.ExprSteps.{MemberOf, by_dot, by_key, ExprStep, not_known, plus_known, minus_known, tilde_known, void_pure, typeof_expression, typeof_constant, join_texts, add_numbers, compute_numbers, power_zero, regroup, compare_known, compare_texts, compare_name, compare_type, equality, instance, logical, choice, front, spread_array, spread_object, text_length, text_character, array_length, array_item, object_value, in_guard}
@@ -127,6 +128,11 @@ expression_no_item (ExportDefaultFn o) h = absurd (false≢true h)
 expression_no_item ExportDefaultExpr h = absurd (false≢true h)
 expression_no_item _ h = refl
 
+expression_below : (l : Label) → is_expression l ≡ true → is_top l ≡ false
+expression_below Module h = absurd (false≢true h)
+expression_below Script h = absurd (false≢true h)
+expression_below l h = refl
+
 pub step_owes : {N : Type 0} {P : Name → Type 0} {mark : ℕ} {t u : Tree} → is_expression (label_of u) ≡ true → ExprStep mark t u → Step N P t u
 step_owes {t = node l ss cs} {u = u} q s =
     let n = step_rewritten s in
@@ -138,3 +144,6 @@ step_fits {t = node l ss cs} {u = node m rs us} q s = fits_nothing (node l ss cs
 
 pub step_no_item : {mark : ℕ} {t u : Tree} → ExprStep mark t u → is_item (label t) ≡ false
 step_no_item {t = node l ss cs} s = expression_no_item l (rewritten_expression l (step_rewritten s))
+
+pub step_below : {mark : ℕ} {t u : Tree} → ExprStep mark t u → is_top (label_of t) ≡ false
+step_below {t = node l ss cs} s = expression_below l (rewritten_expression l (step_rewritten s))

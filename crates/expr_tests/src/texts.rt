@@ -32,7 +32,7 @@ fn simplified_script(
     Ok(printed)
 }
 
-const FOLDED: [(&str, &str); 43] = [
+const FOLDED: &[(&str, &str)] = &[
     // numbers
     ("f(1 + 2);", "f(3);\n"),
     ("f(~4294967296);", "f(-1);\n"),
@@ -159,7 +159,7 @@ const FOLDED: [(&str, &str); 43] = [
     ("f([...a, ...[...b]].length);", "f([...a, ...b].length);\n"),
 ];
 
-const STAYING: [&str; 18] = [
+const STAYING: &[&str] = &[
     "",
     "f(2 ** 50);\n",
     "f(9007199254740991 + 1, 7 / 2, -0, 5 % 0);\n",
@@ -186,7 +186,7 @@ fn folds_modules(rt: HostRuntime) -> Result<(), Fail> {
     let mut pass = expr_simplifier(mark, Config::default());
     for (text, wanted) in FOLDED {
         let (printed, _) = simplified(rt.alloc(), &mut pass, mark, text)?;
-        assert_eq!(rt; printed.as_str(), wanted, "{text}");
+        assert_eq!(rt; printed.as_str(), *wanted, "{text}");
         assert!(rt; pass.changed(), "{text}");
     }
     Ok(())
@@ -198,7 +198,7 @@ fn folds_scripts(rt: HostRuntime) -> Result<(), Fail> {
     let mut pass = expr_simplifier(mark, Config::default());
     for (text, wanted) in FOLDED {
         let printed = simplified_script(rt.alloc(), &mut pass, mark, text)?;
-        assert_eq!(rt; printed.as_str(), wanted, "{text}");
+        assert_eq!(rt; printed.as_str(), *wanted, "{text}");
         assert!(rt; pass.changed(), "{text}");
     }
     Ok(())
@@ -210,7 +210,7 @@ fn leaves_what_nothing_folds(rt: HostRuntime) -> Result<(), Fail> {
     let mut pass = expr_simplifier(mark, Config::default());
     for text in STAYING {
         let (printed, is_same) = simplified(rt.alloc(), &mut pass, mark, text)?;
-        assert_eq!(rt; printed.as_str(), text, "{text}");
+        assert_eq!(rt; printed.as_str(), *text, "{text}");
         assert!(rt; is_same && !pass.changed(), "{text}");
     }
     Ok(())

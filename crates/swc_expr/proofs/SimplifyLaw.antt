@@ -9,9 +9,11 @@ use Rattle.swc_ast.specs.Weight.{weight}
 use Rattle.swc_static.specs.Free.{kind_at, has_kind}
 use Rattle.swc_static.specs.Names.{label_of}
 use Rattle.swc_static.specs.Step.{Step}
+use Rattle.swc_static.specs.Vars.{is_top, LosesNoVar}
 use Rattle.swc_static.proofs.Bare.{weight_bare}
 use Rattle.swc_static.proofs.Free.{delete_free}
 use Rattle.swc_static.proofs.Kept.{walk_keeps}
+use Rattle.swc_static.proofs.Vars.{loses_none, walk_loses_none}
 use Rattle.swc_static.proofs.Walked.{leaves_walks}
 use Rattle.swc_walk.specs.Pass.{is_visited}
 use Rattle.swc_walk.specs.Walks.{Whole}
@@ -26,7 +28,7 @@ use Rattle.expr_rules.specs.Replaced.{expr_redex}
 use Rattle.expr_steps.proofs.Defaults.{void_is_undefined}
 use Rattle.expr_steps.proofs.DefaultsOwe.{default_owes}
 use Rattle.expr_steps.proofs.ExprSteps.{step_exact}
-use Rattle.expr_steps.proofs.Owes.{step_owes, step_fits, step_no_item}
+use Rattle.expr_steps.proofs.Owes.{step_owes, step_fits, step_no_item, step_below}
 use Rattle.swc_expr.specs.Simplifies.{Simplifies, folds, default_goes, simplify_pass}
 use Rattle.swc_expr.specs.Simplified.{Simplified}
 
@@ -58,6 +60,18 @@ owes t u (at_front s) = absurd s
 owes t u (at_node s) = simplifies_owe s
 owes t u (at_list e d) = absurd d
 owes t u (at_both e d s) = absurd d
+
+-- no `var` goes
+
+below : {mark : ℕ} {t u : Tree} → Simplifies mark t u → is_top (label_of t) ≡ false
+below (folds e s) = step_below s
+below (default_goes h) = refl
+
+loses : {mark : ℕ} (t u : Tree) → Does (simplify_pass mark) t u → LosesNoVar t u
+loses t u (at_front s) = absurd s
+loses t u (at_node s) = loses_none (below s) (simplifies_owe s).spares
+loses t u (at_list e d) = absurd d
+loses t u (at_both e d s) = absurd d
 
 -- a node that stands is none that a rule would take
 
@@ -115,5 +129,6 @@ simplified mark t u c w = record {
   stays_valid = λ v. (walk_keeps (λ a b s. (owes {P = λ x. Unit {0}} a b s).keeps) (leaves_walks (whole_leaves w))).valid_kept v;
   core = λ r. whole_core {N = ⊥} {P = λ x. Unit {0}} owes w r;
   lighter = lighter_by c w;
+  vars = walk_loses_none loses (leaves_walks (whole_leaves w));
   finished = λ e. free_by c w e;
 }

@@ -9,6 +9,7 @@ use Rattle.swc_ast.specs.Resolved.{IsResolved}
 use Rattle.swc_ast.specs.Run.{Same}
 use Rattle.swc_ast.specs.Weight.{weight}
 use Rattle.swc_static.specs.Free.{has_kind}
+use Rattle.swc_static.specs.Vars.{LosesNoVar}
 use Rattle.swc_walk.specs.Walks.{Whole}
 use Rattle.swc_pass.specs.Pass.{PassSpec, IsLawful, SameBare}
 use Rattle.expr_rules.specs.Replaced.{expr_redex}
@@ -25,6 +26,8 @@ pub record Simplified (mark : ℕ) (t u : Tree) : Type 0 where
   pub stays_valid : valid t ≡ true → valid u ≡ true
   pub core : IsCore t → IsCore u
   pub lighter : SameBare t u ⊎ (weight u < weight t)
+  -- each `var` name of its body, and of bodies inside it, is still one
+  pub vars : LosesNoVar t u
   -- where nothing changed, no operator and no condition is left on literals that tell what it gives
   pub finished : SameBare t u → has_kind expr_redex t ≡ false
 

@@ -1,4 +1,4 @@
-use Rattle.std.proofs.Common.{ap, ◌∙◌, ◌∷◌, []}
+use Rattle.std.proofs.Common.{ap, ◌∙◌}
 use Rattle.swc_ast.specs.Expressions.{unary_node}
 use Rattle.swc_ast.specs.Views.{expr_tree}
 use Rattle.swc_ast.specs.declared.UnaryOp.TheVariants.{Void}

@@ -1,4 +1,4 @@
-use Rattle.std.proofs.Common.{◌≡◌, map, length}
+use Rattle.std.proofs.Common.{◌≡◌, length}
 use Rattle.swc_ast.specs.Expressions.{item_trees}
 use Rattle.swc_ast.specs.Views.{expr_tree}
 use Rattle.swc_utils.specs.Globals.{unresolved}

@@ -1,6 +1,5 @@
-use Rattle.std.proofs.Common.{◌≡◌, [], ◌∷◌, Some, rules, true, refl, sym, ap, subst, ◌∙◌}
+use Rattle.std.proofs.Common.{◌≡◌, Some, rules, true, refl, sym, ap, subst, ◌∙◌}
 use Rattle.std.specs.Prelude.{IfSome}
-use Rattle.swc_ast.specs.Expressions.{item_spans}
 use Rattle.swc_ast.specs.Operators.{index_of}
 use Rattle.swc_utils.specs.Globals.{unresolved}
 use Rattle.swc_utils.specs.Pure.{has_spread, pure_all}

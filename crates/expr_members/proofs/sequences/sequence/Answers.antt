@@ -1,4 +1,4 @@
-use Rattle.std.proofs.Common.{[], ◌∷◌, sym, ◌∙◌}
+use Rattle.std.proofs.Common.{[], ◌∷◌, ◌∙◌}
 use Rattle.swc_ast.proofs.Equations.{expr_tree-Seq}
 use Rattle.expr_members.proofs.Fronts.{not_one}
 use Rattle.expr_members.proofs.sequences.sequence.Goals as goal

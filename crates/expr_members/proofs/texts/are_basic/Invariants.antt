@@ -1,4 +1,4 @@
-use Rattle.std.proofs.Common.{◌≡◌, ◌+◌, length, drop}
+use Rattle.std.proofs.Common.{◌≡◌, drop}
 use Rattle.expr_rules.specs.Members.{all_basic}
 use Rattle.expr_members.proofs.texts.are_basic.Given as goal
 
