@@ -116,6 +116,16 @@ const FOLDED: &[(&str, &str)] = &[
     ("f([...[1, , 2]]);", "f([1, void 0, 2]);\n"),
     ("f([a, ...[b, ...c], d]);", "f([a, b, ...c, d]);\n"),
     ("f({...{a: 1}, b});", "f({a: 1, b});\n"),
+    // members
+    (
+        "f('abc'.length, 'abc'[1], [1, 2].length);",
+        "f(3, 'b', 2);\n",
+    ),
+    ("f([a, 2][1], {a: 1, b: 2}.b);", "f((a, 2), 2);\n"),
+    (
+        "f({0: a, 1: 'b'}[1], [[1], 2]['length']);",
+        "f({0: a, 1: 'b'}[1], 2);\n",
+    ),
     // places
     ("(1 && a.b)();", "(0, a.b)();\n"),
     ("(1 && a)(); (0 || eval)('a');", "a();\n(0, eval)('a');\n"),
@@ -177,6 +187,9 @@ const STAYING: &[&str] = &[
     "delete a[1 + 2];\ndelete (1 ? a : b).c;\n",
     "function f(a = 1, b = a) {}\n",
     "f(`a${b}c`);\n",
+    "[a.b][0]();\n",
+    "f({a: 1, a: 2}.a, [1, 2]['00'], 'abc'[3]);\n",
+    "[a].length = 1;\n[a][0]++;\n",
     "import 'm';\nexport default f;\n",
 ];
 
