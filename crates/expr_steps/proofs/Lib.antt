@@ -32,6 +32,5 @@ pub mod Owes
 pub mod ExprTrees
 pub mod Roomy
 pub mod Redexes
-pub mod Indices
 pub mod Defaults
 pub mod DefaultsOwe

@@ -1,13 +1,11 @@
 -- What is proved of each rewrite of a node of an expression.
-use Rattle.std.specs.Fmt.{decimal}
-use Rattle.std.specs.Prelude.{ℕ, Bool, true, false, ◌<◌, ◌-◌, ◌^◌, ◌≡◌, List, Some}
+use Rattle.std.specs.Prelude.{ℕ, Bool, true, false, ◌<◌, ◌≡◌, List}
 use Rattle.swc_ast.specs.declared.Span.{Span}
 use Rattle.swc_ast.specs.declared.expressions.Expr.{Expr}
 use Rattle.swc_ast.specs.declared.UnaryOp.{UnaryOp}
 use Rattle.swc_ast.specs.declared.BinaryOp.{BinaryOp}
 use Rattle.swc_ast.specs.Tree.{Name, Label, Param, Read, Unary, Binary, Cond, Seq, Dot, Index, Tree, node, Forest, ε, ◌⊳◌}
 use Rattle.swc_ast.specs.Redex.{is_zero, is_simple_literal, binary_redex, unary_redex}
-use Rattle.swc_ast.specs.Operators.{index_of}
 use Rattle.swc_ast.specs.Views.{expr_tree}
 use Rattle.swc_ast.specs.Weight.{weight}
 use Rattle.swc_meaning.specs.Exact.{Exact, GivesUndefined}
@@ -76,7 +74,3 @@ VoidsAreUndefined = (mark : ℕ) (t : Tree) → is_void mark t ≡ true → Give
 -- a parameter without its default keeps and spares what a pass may not touch, and is lighter
 abbrev pub DefaultsOwe : Type 0
 DefaultsOwe = (n : Bool) (p : Name → Bool) (x : Name) (ss rs : List Span) (t : Tree) → Step (n ≡ true) (λ y. p y ≡ true) (node (Param x) ss (t ⊳ ε)) (node (Param x) rs ε)
-
--- the decimal text of a number that may be an index is that index
-abbrev pub DecimalIsIndex : Type 0
-DecimalIsIndex = (n : ℕ) → n < 2 ^ 32 - 1 → index_of (decimal n) ≡ Some n

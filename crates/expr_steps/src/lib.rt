@@ -1,7 +1,7 @@
 //! What each rewrite of a node of an expression owes: it means the same, is lighter, and keeps what is static.
 #![tactic(auto)]
 
-ghost use Rattle.expr_steps.specs.Laws.{DecimalIsIndex, DefaultsOwe, RedexesHaveSteps, StepsAreExact, StepsAreRoomy, StepsFit, StepsOwe, StepsPassItems, TreesAreExpressions, VoidsAreUndefined};
+ghost use Rattle.expr_steps.specs.Laws.{DefaultsOwe, RedexesHaveSteps, StepsAreExact, StepsAreRoomy, StepsFit, StepsOwe, StepsPassItems, TreesAreExpressions, VoidsAreUndefined};
 
 /// The laws of the rewrites, which its contract states.
 pub fn laws()
@@ -12,7 +12,6 @@ pub fn laws()
     ensures no_item { StepsPassItems }
     ensures roomy { StepsAreRoomy }
     ensures redexes { RedexesHaveSteps }
-    ensures indices { DecimalIsIndex }
     ensures defaults { VoidsAreUndefined }
     ensures defaults_owe { DefaultsOwe }
 {}

@@ -2,7 +2,6 @@ use Rattle.expr_steps.proofs.Defaults.{void_is_undefined}
 use Rattle.expr_steps.proofs.DefaultsOwe.{default_owes}
 use Rattle.expr_steps.proofs.ExprSteps.{step_exact}
 use Rattle.expr_steps.proofs.ExprTrees.{is_an_expression}
-use Rattle.expr_steps.proofs.Indices.{index_of_decimal}
 use Rattle.expr_steps.proofs.Owes.{step_owes, step_fits, step_no_item}
 use Rattle.expr_steps.proofs.Roomy.{guarded_lighter}
 use Rattle.expr_steps.proofs.Redexes.{redexes_step}
@@ -17,7 +16,6 @@ returns c = record {
   no_item = λ mark t u s. step_no_item s;
   roomy = λ mark t u s. guarded_lighter s;
   redexes = λ mark ss. redexes_step mark ss;
-  indices = index_of_decimal;
   defaults = void_is_undefined;
   defaults_owe = λ n p x ss rs t. default_owes x ss rs t;
 }
