@@ -2,9 +2,10 @@
 use Rattle.std.proofs.Common.{◌≡◌, ℕ, Bool, true, false, List, [], ◌∷◌, ◌++◌, refl, sym, ap, ◌∙◌}
 use Rattle.std.proofs.lemmas.Bool.{false≢true, true≢false, or_parts, or_from}
 use Rattle.swc_ast.specs.declared.Span.{Span}
+use Rattle.swc_ast.specs.declared.VarDeclKind.{VarDeclKind}
 use Rattle.swc_ast.specs.Meaning.{eval}
 use Rattle.swc_ast.specs.Scope.{has_name, imported_name, specifier_names}
-use Rattle.swc_ast.specs.Tree.{Name, Text, Label, Param, Block, Body, CaseBody, VarDecl, FnDecl, Import, ExportDecl, Module, Script, Tree, node, Forest, ε, ◌⊳◌}
+use Rattle.swc_ast.specs.Tree.{Name, Text, Label, Param, Block, Body, CaseBody, For, VarDecl, FnDecl, Import, ExportDecl, Module, Script, Tree, node, Forest, ε, ◌⊳◌}
 use Rattle.swc_ast.specs.Run.{Same, sources, source_of, once, exported}
 use Rattle.swc_meaning.specs.Names as names
 use Rattle.swc_meaning.specs.Names.{Names, Watched, Exported}
@@ -17,14 +18,15 @@ use Rattle.swc_meaning.specs.Walks as meaning
 use Rattle.swc_meaning.specs.Walks.{Steps, StepsRight, AllClean, AllCleanIn, WalksAll, WalksWhole, no_names, as_it_is, early, at_node, at_list, at_declarators, at_default, at_import, at_export, no_more, one_more, goes, goes_behind, walks_module, walks_script}
 use Rattle.swc_meaning.proofs.Idles.{idle_import, import_declares}
 use Rattle.swc_meaning.proofs.Spans.{no_dead_in, none_dead, living_clean_in}
+use Rattle.swc_meaning.proofs.Observations.{same_itself}
 use Rattle.swc_meaning.proofs.Walking.{same_sources, walk_all, walk_same}
 use Rattle.swc_static.specs.Together.{is_module}
 use Rattle.swc_static.proofs.Names.{has_name_append}
 use Rattle.swc_walk.specs.Pass.{Pass, is_plain, is_block, is_whole, is_declaration}
-use Rattle.swc_walk.specs.Walks.{Walks, closed, opened, passes, stands, stepped, Entered, plain, exported as exported_node, imports, block, ListMade, listed, tidied, Whole, whole, AllWalk, nothing, both}
+use Rattle.swc_walk.specs.Walks.{Walks, closed, opened, passes, stands, stepped, Entered, plain, exported as exported_node, headed, head_shut, imports, block, ListMade, listed, tidied, Whole, shut, whole, AllWalk, nothing, both}
 use Rattle.swc_kept.specs.Meant.{Sifts, sifted, stays_there, goes_there, ListStep, sifts_then, Unused, unused, ItemGoes, statement_goes, import_goes, ItemsStep, items_then, NodeStep, alone, of_declarators, of_default, of_specifiers, of_export, Meant}
 
-block_is : (l : Label) → is_block l ≡ true → roles.is_list l ≡ true
+pub block_is : (l : Label) → is_block l ≡ true → roles.is_list l ≡ true
 block_is Block h = refl
 block_is Body h = refl
 block_is CaseBody h = refl
@@ -36,7 +38,7 @@ block_no_module Body h = refl
 block_no_module CaseBody h = refl
 block_no_module l h = absurd (false≢true h)
 
-declaration_is : (l : Label) → is_declaration l ≡ true → meaning.is_declaration l ≡ true
+pub declaration_is : (l : Label) → is_declaration l ≡ true → meaning.is_declaration l ≡ true
 declaration_is (VarDecl k) h = refl
 declaration_is (FnDecl x) h = refl
 declaration_is l h = absurd (false≢true h)
@@ -45,7 +47,7 @@ no_source : (l : Label) → is_item l ≡ false → source_of l ≡ []
 no_source (Import src) h = absurd (true≢false h)
 no_source l h = refl
 
-sources_at : (t : Tree) (ts : Forest) → sources (t ⊳ ts) ≡ source_of (label t) ++ sources ts
+pub sources_at : (t : Tree) (ts : Forest) → sources (t ⊳ ts) ≡ source_of (label t) ++ sources ts
 sources_at (node l ss cs) ts = refl
 
 -- where loads don't count, none is heeded
@@ -76,35 +78,33 @@ data ListOf (N : Names) (mark : ℕ) (H : Steps) (ts vs : Forest) : Type 0 where
   list_of : {us : Forest} → WalksAll N mark H true ts us → H.Behind us vs → ListOf N mark H ts vs
 
 module _ {N : Names} {mark : ℕ} {H : Steps} where
-  sift : {ts us vs : Forest} → WalksAll N mark H true ts us → Sifts H.GoesBehind us vs → WalksAll N mark H true ts vs
+  sift : {ts us vs : Forest} → WalksAll N mark H false ts us → Sifts H.GoesBehind us vs → WalksAll N mark H true ts vs
   sift no_more sifted = no_more
   sift (one_more w ws) (stays_there s) = one_more w (sift ws s)
   sift (one_more w ws) (goes_there g s) = goes_behind w g (sift ws s)
-  sift (goes g ws) s = goes g (sift ws s)
-  sift (goes_behind w g ws) s = goes_behind w g (sift ws s)
 
-  tidied_list : {ts us vs : Forest} → WalksAll N mark H true ts us → ListStep H us vs → ListOf N mark H ts vs
+  tidied_list : {ts us vs : Forest} → WalksAll N mark H false ts us → ListStep H us vs → ListOf N mark H ts vs
   tidied_list ws (sifts_then s b) = list_of (sift ws s) b
 
-  module _ {X : Pass} {loads : Bool} (m : Meant X N mark loads H) where
-    plain_meant : (l : Label) {ss : List Span} {ts us : Forest} {w : Tree} → is_plain l ≡ true → Clean N mark l → ((b : Bool) → WalksAll N mark H b ts us) → H.Node (node l ss us) w → meaning.Walks N mark H (node l ss ts) w
-    plain_meant (VarDecl k) p c ws n = at_declarators k (ws true) n
-    plain_meant Block p c ws n = absurd (false≢true p)
-    plain_meant Body p c ws n = absurd (false≢true p)
-    plain_meant CaseBody p c ws n = absurd (false≢true p)
-    plain_meant ExportDecl p c ws n = absurd (false≢true p)
-    plain_meant (Import src) p c ws n = absurd (false≢true p)
-    plain_meant l p c ws n = at_node l refl c (ws false) n
+  pub plain_meant : (l : Label) {ss : List Span} {ts us : Forest} {w : Tree} → is_plain l ≡ true → Clean N mark l → ((b : Bool) → WalksAll N mark H b ts us) → H.Node (node l ss us) w → meaning.Walks N mark H (node l ss ts) w
+  plain_meant (VarDecl k) p c ws n = at_declarators k (ws true) n
+  plain_meant Block p c ws n = absurd (false≢true p)
+  plain_meant Body p c ws n = absurd (false≢true p)
+  plain_meant CaseBody p c ws n = absurd (false≢true p)
+  plain_meant ExportDecl p c ws n = absurd (false≢true p)
+  plain_meant (Import src) p c ws n = absurd (false≢true p)
+  plain_meant l p c ws n = at_node l refl c (ws false) n
 
+  pub default_meant : {x : Name} {ss rs : List Span} {ts : Forest} {t : Tree} → Clean N mark (Param x) → WalksAll N mark H false ts (t ⊳ ε) → GivesUndefined mark t → meaning.Walks N mark H (node (Param x) ss ts) (node (Param x) rs ε)
+  default_meant c (one_more w no_more) y = at_default c.0 c.1 w y
+
+  module _ {X : Pass} {loads : Bool} (m : Meant X N mark loads H) where
     block_meant : (l : Label) {ss : List Span} {ts us : Forest} {w : Tree} → is_block l ≡ true → ListOf N mark H ts us → H.Node (node l ss us) w → meaning.Walks N mark H (node l ss ts) w
     block_meant l {ts = ts} b (list_of ws h) n = at_list l (block_is l b) (m.before_stays ts) ws h n
 
-    default_meant : {x : Name} {ss rs : List Span} {ts : Forest} {t : Tree} → Clean N mark (Param x) → WalksAll N mark H false ts (t ⊳ ε) → GivesUndefined mark t → meaning.Walks N mark H (node (Param x) ss ts) (node (Param x) rs ε)
-    default_meant c (one_more w no_more) y = at_default c.0 c.1 w y
-
     plain_stepped : (l : Label) {ss : List Span} {ts us : Forest} {w : Tree} → is_plain l ≡ true → Clean N mark l → ((b : Bool) → WalksAll N mark H b ts us) → NodeStep N mark H (node l ss us) w → meaning.Walks N mark H (node l ss ts) w
     plain_stepped l p c ws (alone i j n) = plain_meant l p c ws n
-    plain_stepped (VarDecl k) p c ws (of_declarators j s n) = at_declarators k (sift (ws true) s) n
+    plain_stepped (VarDecl k) p c ws (of_declarators j s n) = at_declarators k (sift (ws false) s) n
     plain_stepped (Param x) p c ws (of_default y) = default_meant c (ws false) y
     plain_stepped (Import src) p c ws (of_specifiers s) = absurd (false≢true p)
     plain_stepped ExportDecl p c ws (of_export n x) = absurd (false≢true p)
@@ -115,6 +115,10 @@ module _ {N : Names} {mark : ℕ} {H : Steps} where
     block_stepped (Param x) b ws (of_default y) = absurd (false≢true b)
     block_stepped (Import src) b ws (of_specifiers s) = absurd (false≢true b)
     block_stepped ExportDecl b ws (of_export n x) = absurd (false≢true b)
+
+    -- the head of a `for`, and what stands behind it
+    headed_meant : (b : Bool) (k : VarDeclKind) {ss : List Span} {ds es ts us : Forest} → WalksAll N mark H true ds es → WalksAll N mark H b ts us → WalksAll N mark H b (node (VarDecl k) ss ds ⊳ ts) (node (VarDecl k) ss es ⊳ us)
+    headed_meant b k {ss} {es = es} ds ws = one_more (at_declarators k ds (m.node_stays (node (VarDecl k) ss es))) ws
 
     mutual
       pub meant : {c : Bool} {a b : Tree} → Walks X c a b → AllClean N mark a → meaning.Walks N mark H a b
@@ -127,6 +131,8 @@ module _ {N : Names} {mark : ℕ} {H : Steps} where
       entered_meant : {c : Bool} {a b : Tree} → Entered X c a b → AllClean N mark a → meaning.Walks N mark H a b
       entered_meant (plain {l = l} {ss = ss} {us = us} p ws) k = plain_meant l p k.0 (λ b. all_meant b ws k.1.1) (m.node_stays (node l ss us))
       entered_meant (exported_node {l = l} {rs = rs} {us = us} d ws) k = at_export l (declaration_is l d) k.1.1.0.0 (all_meant false ws k.1.1.0.1.1) (m.node_stays (node l rs us)) refl
+      entered_meant (headed {k = d} {ss = ss} {us = us} ds ws) k = plain_meant For refl k.0 (λ b. headed_meant b d (all_meant true ds k.1.1.0.1.1) (all_meant b ws k.1.1.1)) (m.node_stays (node For ss _))
+      entered_meant (head_shut {h = h} {ss = ss} {us = us} s ws) k = plain_meant For refl k.0 (λ b. one_more (as_it_is refl k.1.1.0) (all_meant b ws k.1.1.1)) (m.node_stays (node For ss (h ⊳ us)))
       entered_meant (imports u) k = as_it_is refl k
       entered_meant (block {l = l} {ss = ss} {us = us} b w) k = block_meant l b (list_meant (block_no_module l b) w k.1.1) (m.node_stays (node l ss us))
 
@@ -134,13 +140,15 @@ module _ {N : Names} {mark : ℕ} {H : Steps} where
       stepped_meant (plain {l = l} p ws) k n = plain_stepped l p k.0 (λ b. all_meant b ws k.1.1) n
       stepped_meant (exported_node d ws) k (alone i j n) = absurd (true≢false i)
       stepped_meant (exported_node {l = l} d ws) k (of_export n x) = at_export l (declaration_is l d) k.1.1.0.0 (all_meant false ws k.1.1.0.1.1) n x
+      stepped_meant (headed {k = d} ds ws) k n = plain_stepped For refl k.0 (λ b. headed_meant b d (all_meant true ds k.1.1.0.1.1) (all_meant b ws k.1.1.1)) n
+      stepped_meant (head_shut s ws) k n = plain_stepped For refl k.0 (λ b. one_more (as_it_is refl k.1.1.0) (all_meant b ws k.1.1.1)) n
       stepped_meant (imports {src = src} u) k (alone i j n) = absurd (true≢false i)
       stepped_meant (imports {src = src} u) k (of_specifiers s) = at_import src s
       stepped_meant (block {l = l} b w) k n = block_stepped l b (list_meant (block_no_module l b) w k.1.1) n
 
       list_meant : {l : Label} {c : Bool} {ts us : Forest} → is_module l ≡ false → ListMade X l c ts us → AllCleanIn N mark ts → ListOf N mark H ts us
       list_meant i (listed {us = us} ws t) k = list_of (all_meant true ws k) (m.list_stays us)
-      list_meant i (tidied {l = l} {us = us} {vs = vs} ws t) k = tidied_list (all_meant true ws k) (m.list_step l us vs i t)
+      list_meant i (tidied {l = l} {us = us} {vs = vs} ws t) k = tidied_list (all_meant false ws k) (m.list_step l us vs i t)
 
       all_meant : (b : Bool) {c : Bool} {ts us : Forest} → AllWalk X c ts us → AllCleanIn N mark ts → WalksAll N mark H b ts us
       all_meant b nothing k = no_more
@@ -150,6 +158,8 @@ module _ {N : Names} {mark : ℕ} {H : Steps} where
     entered_from : {c : Bool} {a b : Tree} → Entered X c a b → Unused N b → Unused N a
     entered_from (plain p ws) (unused h) = absurd (false≢true p)
     entered_from (exported_node d ws) e = elim e [ ]
+    entered_from (headed ds ws) e = elim e [ ]
+    entered_from (head_shut s ws) e = elim e [ ]
     entered_from (imports u) e = e
     entered_from (block b w) (unused h) = absurd (false≢true b)
 
@@ -203,6 +213,7 @@ module _ {N : Names} {mark : ℕ} {H : Steps} where
 
       -- the law
       pub whole_same_meaning : {c : Bool} {l : Label} {ss : List Span} {ts : Forest} {u : Tree} → AllCleanIn N mark ts → ((x : Name) → is_exported x (exported ts) ≡ true → Exported N x) → Whole X c (node l ss ts) u → Same mark loads (node l ss ts) u
+      whole_same_meaning {l = l} {ss} {ts} k x (shut s) = same_itself mark loads (node l ss ts)
       whole_same_meaning k x (whole {l = l} {ss = ss} i w) = walk_same right loads (whole_walks l ss i k x w)
 
 -- where no name is dropped

@@ -4,7 +4,7 @@ use Rattle.swc_ast.specs.declared.Span.{Span}
 use Rattle.swc_ast.specs.Tree.{Label, Tree, node, Forest}
 use Rattle.swc_ast.specs.Weight.{is_list}
 use Rattle.swc_static.specs.Names.{label_of, trees_of}
-use Rattle.swc_walk.specs.Pass.{Pass, is_visited}
+use Rattle.swc_walk.specs.Pass.{Pass, is_visited, only_head}
 
 -- a step in front, a step of the node, one of its list, or of the list and then of the node
 pub data Does (X : Pass) : Tree → Tree → Type 0 where
@@ -12,6 +12,11 @@ pub data Does (X : Pass) : Tree → Tree → Type 0 where
   at_node : {a b : Tree} → X.steps a b → Does X a b
   at_list : {l : Label} {ss : List Span} {ts us : Forest} → is_list l ≡ true → X.tidies l ts us → Does X (node l ss ts) (node l ss us)
   at_both : {l : Label} {ss : List Span} {ts us : Forest} {b : Tree} → is_list l ≡ true → X.tidies l ts us → X.steps (node l ss us) b → Does X (node l ss ts) b
+
+-- a node that is not entered, or a head of a `for` that is not
+pub data Closed (X : Pass) (t : Tree) : Type 0 where
+  closed_node : X.skips t → Closed X t
+  closed_head : X.skips (only_head t) → Closed X t
 
 -- no rule fits a node, where one sees it, nor its list, where it has one
 pub record Finished (X : Pass) (t : Tree) : Type 0 where

@@ -8,12 +8,14 @@ use Rattle.swc_ast.specs.Scope.{has_name}
 use Rattle.swc_ast.specs.Weight.{weight}
 use Rattle.swc_static.specs.Free.{has_kind, kind_at}
 use Rattle.swc_static.specs.Lighter.{Lowers, is_settled}
+use Rattle.swc_static.specs.Shaped.{IsShaped}
 use Rattle.swc_static.specs.Spares.{exports_of}
 use Rattle.swc_static.specs.Step.{Step}
 use Rattle.swc_walk.specs.Pass.{Pass}
 use Rattle.swc_walk.specs.Walks.{Whole}
 use Rattle.swc_kept.specs.Finished.{Does, Finished}
 use Rattle.swc_kept.specs.Plain.{PlainRight}
+use Rattle.swc_kept.specs.Dying.{DyingRight}
 
 -- Each step is one that a pass may take: of a pass that may make statements stop, where n is true, and that may drop no name
 -- of those that p holds of.
@@ -23,6 +25,10 @@ StepsOwed X n p = (a b : Tree) → Does X a b → Step (n ≡ true) (λ x. p x �
 -- steps that do the same and declare the same make a module or a script that does the same
 abbrev pub RightIsSame : Pass → Type 0
 RightIsSame X = (mark : ℕ) → PlainRight X mark → (loads c : Bool) (t u : Tree) → Whole X c t u → Same mark loads t u
+
+-- so they do where names go behind what never ends normally, of a module that is resolved, in the core and shaped
+abbrev pub DyingIsSame : Pass → Type 0
+DyingIsSame X = (mark : ℕ) → DyingRight X mark → (loads c : Bool) (t u : Tree) → IsResolved mark t → IsCore t → IsShaped t → Whole X c t u → Same mark loads t u
 
 -- what is resolved stays so, where the names that it exports may not be dropped
 abbrev pub ResolvedIsKept : Pass → Type 0

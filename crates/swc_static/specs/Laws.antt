@@ -2,13 +2,17 @@
 use Rattle.std.specs.Prelude.{ℕ, ◌≡◌, Bool, true, false}
 use Rattle.swc_ast.specs.Tree.{Name, Tree, bare}
 use Rattle.swc_ast.specs.Core.{IsCore}
+use Rattle.swc_ast.specs.Modules.{module_tree, script_tree}
 use Rattle.swc_ast.specs.Redex.{has_redex}
 use Rattle.swc_ast.specs.Resolved.{IsResolved}
 use Rattle.swc_ast.specs.Scope.{has_name}
 use Rattle.swc_static.specs.Free.{fold_redex, branch_redex, has_kind}
 use Rattle.swc_static.specs.Keeps.{Keeps}
 use Rattle.swc_static.specs.Lighter.{Weighed}
+use Rattle.swc_static.specs.Shaped.{IsShaped}
 use Rattle.swc_static.specs.Spares.{Spares, exports_of}
+use Rattle.swc_ast.specs.declared.modules.Module.{Module}
+use Rattle.swc_ast.specs.declared.modules.Script.{Script}
 
 -- what is resolved stays so, where the names that it exports by specifiers are spared
 abbrev pub KeptIsResolved : Type 0
@@ -25,3 +29,10 @@ WeighedIsSame = (n : Bool) (t u : Tree) → Weighed (n ≡ true) t u → bare u 
 -- what holds no redex of expressions and none of statements and lists holds none
 abbrev pub FreeOfBoth : Type 0
 FreeOfBoth = (t : Tree) → has_kind fold_redex t ≡ false → has_kind branch_redex t ≡ false → has_redex t ≡ false
+
+-- the views of modules and scripts are shaped
+abbrev pub ModulesAreShaped : Type 0
+ModulesAreShaped = (m : Module) → IsShaped (module_tree m)
+
+abbrev pub ScriptsAreShaped : Type 0
+ScriptsAreShaped = (s : Script) → IsShaped (script_tree s)

@@ -1,8 +1,8 @@
 -- What is known of every walk from what is known of its steps.
 use Rattle.std.proofs.Common.{Bool}
 use Rattle.swc_ast.specs.Tree.{Label, Tree, Forest}
-use Rattle.swc_walk.specs.Pass.{Pass}
-use Rattle.swc_walk.specs.Walks.{Walks, closed, opened, passes, stands, stepped, Entered, plain, exported, imports, block, ListMade, listed, tidied, Whole, whole, AllWalk, nothing, both}
+use Rattle.swc_walk.specs.Pass.{Pass, only_head}
+use Rattle.swc_walk.specs.Walks.{Walks, closed, opened, passes, stands, stepped, Entered, plain, exported, headed, head_shut, imports, block, ListMade, listed, tidied, Whole, shut, whole, AllWalk, nothing, both}
 
 -- a pass that does what another does
 pub record Within (X Y : Pass) : Type 0 where
@@ -24,6 +24,8 @@ mutual
   pub entered_by : {X Y : Pass} {c : Bool} {a b : Tree} → Within X Y → Entered X c a b → Entered Y c a b
   entered_by h (plain i ws) = plain i (all_by h ws)
   entered_by h (exported i ws) = exported i (all_by h ws)
+  entered_by h (headed ds ts) = headed (all_by h ds) (all_by h ts)
+  entered_by h (head_shut {h = head} s ts) = head_shut (h.skips (only_head head) s) (all_by h ts)
   entered_by h (imports i) = imports i
   entered_by h (block i w) = block i (list_by h w)
 
@@ -36,4 +38,5 @@ mutual
   all_by h (both w ws) = both (walks_by h w) (all_by h ws)
 
 pub whole_by : {X Y : Pass} {c : Bool} {a b : Tree} → Within X Y → Whole X c a b → Whole Y c a b
+whole_by h (shut {t = t} s) = shut (h.skips t s)
 whole_by h (whole i w) = whole i (list_by h w)

@@ -35,7 +35,7 @@ use Rattle.swc_ast.specs.declared.statements.Stmt.{Stmt}
 use Rattle.swc_ast.proofs.Equations.{expr_tree-Object, expr_tree-Fn, expr_tree-Arrow, prop_or_spread_tree-Spread, prop_or_spread_tree-Prop, prop_tree-KeyValue, prop_tree-Method, arrow_body_tree-BlockStmt, arrow_body_tree-Expr, method_tree-is, method_tree-roll}
 use Rattle.swc_walk.specs.Walks.{Walks, both, Inside, parts, Each}
 use Rattle.swc_walk.specs.StatementParts.{FunctionWalks}
-use Rattle.swc_walk.proofs.Walked.{sees, passed, walks_at, inside_at, one_child, two_children, each_list}
+use Rattle.swc_walk.proofs.Walked.{is_passed, passed, walks_at, inside_at, one_child, two_children, each_list}
 use Rattle.swc_walk.specs.Pass.{Pass, is_plain}
 
 pub object_arm : {X : Pass} {e f : Expr} {n m : ObjectLit PropOrSpread} {d : Bool} (b : Vec PropOrSpread Global) → e ≡ in_expr.Object n → m ≡ n → f ≡ in_expr.Object (record n { props = b }) → Each (λ x y d. Walks X d (prop_or_spread_tree x) (prop_or_spread_tree y)) m.props.items b.items d → Inside X d (expr_tree e) (expr_tree f)
@@ -83,7 +83,7 @@ pub assign_param : {X : Pass} {c : Bool} (e f : Pat Expr) (n m : AssignPat Expr)
 assign_param {X} {c} e f n m a is same after w =
     inside_at (ap (param_tree expr_tree) is) (ap (param_tree expr_tree) after) (parts refl (one_child (subst (λ k. Walks X c (expr_tree k.right.value) (expr_tree a.value)) same w)))
 
-pub param_unseen : (p : Pat Expr) → sees (param_tree expr_tree p) ≡ false
+pub param_unseen : (p : Pat Expr) → is_passed (param_tree expr_tree p) ≡ true
 param_unseen (pat.Ident n) = refl
 param_unseen (pat.Assign n) = refl
 

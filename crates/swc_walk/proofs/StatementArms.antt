@@ -39,12 +39,13 @@ use Rattle.swc_ast.specs.declared.statements.VarDeclOrExpr.TheVariants as init
 use Rattle.swc_ast.specs.declared.statements.WhileStmt.{WhileStmt}
 use Rattle.swc_ast.proofs.Equations.{stmt_tree-Block, stmt_tree-Return, stmt_tree-Labeled, stmt_tree-If, stmt_tree-Switch, stmt_tree-Throw, stmt_tree-Try, stmt_tree-While, stmt_tree-DoWhile, stmt_tree-For, stmt_tree-Decl, stmt_tree-Expr, decl_tree-Fn, decl_tree-Var, switch_tree-is, switch_tree-roll}
 use Rattle.swc_walk.specs.declared.rules.ListPlace.{ListPlace}
-use Rattle.swc_walk.specs.Walks.{Walks, passes, Entered, plain, block, ListMade, listed, tidied, AllWalk, nothing, both, Each, none, more}
+use Rattle.swc_walk.specs.declared.rules.ListPlace.TheVariants as place
+use Rattle.swc_walk.specs.Walks.{Walks, closed, passes, Entered, plain, headed, head_shut, block, ListMade, listed, tidied, AllWalk, nothing, both, Each, none, more}
 use Rattle.swc_walk.specs.Parts.{OptionWalks}
-use Rattle.swc_walk.specs.Lists.{list_label, ListBecame, ListWalks}
-use Rattle.swc_walk.specs.StatementParts.{FunctionWalks, LoopWalks, CaseWalks, HandlerWalks, DeclaratorWalks, DeclWalks, declared}
+use Rattle.swc_walk.specs.Lists.{list_label, ListBecame, ListWalks, PartWalks, Shut}
+use Rattle.swc_walk.specs.StatementParts.{FunctionWalks, LoopWalks, CaseWalks, HandlerWalks, HeadWalks, walked, declares, stays_shut, DeclaratorWalks, DeclWalks, declared}
 use Rattle.swc_walk.proofs.Walked.{or_none, or_true, or_assoc, or_comm, walks_unvisited, passed, walks_at, entered_at, one_child, two_children, each_list}
-use Rattle.swc_walk.specs.Pass.{Pass, is_declaration}
+use Rattle.swc_walk.specs.Pass.{Pass, is_declaration, only_head}
 
 -- an expression or a statement, if any
 pub option_trees : {N : Type 0} {X : Pass} (f : N → Tree) (o p : Option (Box N Global)) (c : Bool) → OptionWalks X f o p c → AllWalk X c (optional_trees f o) (optional_trees f p)
@@ -138,15 +139,15 @@ pub loop_made : {X : Pass} {l m : LoopTrees} {c d : Bool} (s : Span) (a b : Box 
 loop_made {X} {l} {m} {c} {d} s a b p q e f h k =
     subst (λ z. LoopWalks X z m (c || d)) (sym e) (subst (λ z. LoopWalks X (loop_parts expr_tree stmt_tree s a p) z (c || d)) (sym f) (record { tests = c; bodies = d; own = refl; test = h; body = k; either = refl }))
 
-pub try_arm : {X : Pass} {e f : Stmt} {n m : TryStmt Stmt} {c d q : Bool} (a : BlockStmt Stmt) (h : Option (CatchClause Stmt)) (z : Option (BlockStmt Stmt)) → e ≡ in_stmt.Try n → m ≡ n → f ≡ in_stmt.Try (record n { block = a; handler = h; finalizer = z }) → Entered X c (block_tree stmt_tree m.block) (block_tree stmt_tree a) → HandlerWalks X m.handler h d → Walks X q (option_block_tree stmt_tree m.finalizer) (option_block_tree stmt_tree z) → Entered X (c || (d || q)) (stmt_tree e) (stmt_tree f)
+pub try_arm : {X : Pass} {e f : Stmt} {n m : TryStmt Stmt} {c d q : Bool} (a : BlockStmt Stmt) (h : Option (CatchClause Stmt)) (z : Option (BlockStmt Stmt)) → e ≡ in_stmt.Try n → m ≡ n → f ≡ in_stmt.Try (record n { block = a; handler = h; finalizer = z }) → Walks X c (block_tree stmt_tree m.block) (block_tree stmt_tree a) → HandlerWalks X m.handler h d → Walks X q (option_block_tree stmt_tree m.finalizer) (option_block_tree stmt_tree z) → Entered X (c || (d || q)) (stmt_tree e) (stmt_tree f)
 try_arm {X} {e} {f} {n} {m} {c} {d} {q} a h z is same after w v u =
     let k : HandlerWalks X n.handler h d = subst (λ k. HandlerWalks X k.handler h d) same v in
     let label : try_tree stmt_tree (record n { block = a; handler = h; finalizer = z }) ≡ node (tree.Try (handler_param n.handler)) (n.span ∷ handler_spans n.handler) (block_tree stmt_tree a ⊳ handler_tree stmt_tree h ⊳ option_block_tree stmt_tree z ⊳ ε) = cc (k.param, k.spans) in
-    entered_at (ap stmt_tree is ∙ stmt_tree-Try n) (ap stmt_tree after ∙ stmt_tree-Try _ ∙ label) (plain refl (both (passes refl (subst (λ k. Entered X c (block_tree stmt_tree k.block) (block_tree stmt_tree a)) same w)) (two_children k.block (subst (λ k. Walks X q (option_block_tree stmt_tree k.finalizer) (option_block_tree stmt_tree z)) same u))))
+    entered_at (ap stmt_tree is ∙ stmt_tree-Try n) (ap stmt_tree after ∙ stmt_tree-Try _ ∙ label) (plain refl (both (subst (λ k. Walks X c (block_tree stmt_tree k.block) (block_tree stmt_tree a)) same w) (two_children k.block (subst (λ k. Walks X q (option_block_tree stmt_tree k.finalizer) (option_block_tree stmt_tree z)) same u))))
 
-pub handler_made : {X : Pass} {c : Bool} (e f : Option (CatchClause Stmt)) (n m : CatchClause Stmt) (a : BlockStmt Stmt) → e ≡ Some n → m ≡ n → f ≡ Some (record n { body = a }) → Entered X c (block_tree stmt_tree m.body) (block_tree stmt_tree a) → HandlerWalks X e f c
+pub handler_made : {X : Pass} {c : Bool} (e f : Option (CatchClause Stmt)) (n m : CatchClause Stmt) (a : BlockStmt Stmt) → e ≡ Some n → m ≡ n → f ≡ Some (record n { body = a }) → Walks X c (block_tree stmt_tree m.body) (block_tree stmt_tree a) → HandlerWalks X e f c
 handler_made {X} {c} e f n m a is same after w =
-    subst (λ k. HandlerWalks X k f c) (sym is) (subst (λ k. HandlerWalks X (Some n) k c) (sym after) (record { param = refl; spans = refl; block = passes refl (subst (λ k. Entered X c (block_tree stmt_tree k.body) (block_tree stmt_tree a)) same w) }))
+    subst (λ k. HandlerWalks X k f c) (sym is) (subst (λ k. HandlerWalks X (Some n) k c) (sym after) (record { param = refl; spans = refl; block = subst (λ k. Walks X c (block_tree stmt_tree k.body) (block_tree stmt_tree a)) same w }))
 
 pub no_handler : (X : Pass) (h : Option (CatchClause Stmt)) → h ≡ None → HandlerWalks X h h false
 no_handler X h is = subst (λ k. HandlerWalks X k k false) (sym is) (record { param = refl; spans = refl; block = walks_unvisited X absent refl })
@@ -154,8 +155,14 @@ no_handler X h is = subst (λ k. HandlerWalks X k k false) (sym is) (record { pa
 pub if_made : {X : Pass} {t u : Tree} {c d : Bool} (q : Bool) (s : Span) (a b : Box Expr Global) (v w : Box Stmt Global) (y z : Option (Box Stmt Global)) → t ≡ if_node expr_tree stmt_tree s a v y → u ≡ if_node expr_tree stmt_tree s b w z → Walks X c (expr_tree a.value) (expr_tree b.value) → Walks X d (stmt_tree v.value) (stmt_tree w.value) → OptionWalks X stmt_tree y z q → Entered X (c || (d || q)) t u
 if_made {X} {t} {u} {c} {d} q s a b v w y z e f h k l = entered_at e f (plain refl (both h (both k (option_trees stmt_tree y z q l))))
 
-pub for_made : {X : Pass} {t u : Tree} {c r : Bool} (d q : Bool) (s : Span) (i j : Option (VarDeclOrExpr Expr)) (a b v w : Option (Box Expr Global)) (y z : Box Stmt Global) → t ≡ for_node expr_tree stmt_tree s i a v y → u ≡ for_node expr_tree stmt_tree s j b w z → Walks X c (option_init_tree expr_tree i) (option_init_tree expr_tree j) → OptionWalks X expr_tree a b d → OptionWalks X expr_tree v w q → Walks X r (stmt_tree y.value) (stmt_tree z.value) → Entered X (c || (d || (q || r))) t u
-for_made {X} {t} {u} {c} {r} d q s i j a b v w y z e f h k l o = entered_at e f (plain refl (both h (both (option_tree expr_tree a b d k) (two_children (option_tree expr_tree v w q l) o))))
+-- a `for`, whose head is entered or not
+head_entered : {X : Pass} {c d : Bool} (ss : List Span) {x p : Tree} {ts us : Forest} → HeadWalks X x p c → AllWalk X d ts us → Entered X (c || d) (node tree.For ss (x ⊳ ts)) (node tree.For ss (p ⊳ us))
+head_entered ss (walked m) ws = plain refl (both m ws)
+head_entered ss {ts = ts} {us = us} (declares i j ds) ws = entered_at (ap (λ g. node tree.For ss (g ⊳ ts)) i) (ap (λ g. node tree.For ss (g ⊳ us)) j) (headed ds ws)
+head_entered {X} {c} {d} ss {x} {p} {ts} {us} (stays_shut m j n) ws = subst (λ g. Entered X (g || d) (node tree.For ss (x ⊳ ts)) (node tree.For ss (p ⊳ us))) (sym n) (entered_at refl (ap (λ g. node tree.For ss (g ⊳ us)) j) (head_shut m ws))
+
+pub for_made : {X : Pass} {t u : Tree} {c r : Bool} (d q : Bool) (s : Span) (i j : Option (VarDeclOrExpr Expr)) (a b v w : Option (Box Expr Global)) (y z : Box Stmt Global) → t ≡ for_node expr_tree stmt_tree s i a v y → u ≡ for_node expr_tree stmt_tree s j b w z → HeadWalks X (option_init_tree expr_tree i) (option_init_tree expr_tree j) c → OptionWalks X expr_tree a b d → OptionWalks X expr_tree v w q → Walks X r (stmt_tree y.value) (stmt_tree z.value) → Entered X (c || (d || (q || r))) t u
+for_made {X} {t} {u} {c} {r} d q s i j a b v w y z e f h k l o = entered_at e f (head_entered (s ∷ []) h (both (option_tree expr_tree a b d k) (two_children (option_tree expr_tree v w q l) o)))
 
 -- the cases of a switch
 case_labels : {X : Pass} {xs ys : List SwitchCase} {c : Bool} → Each (λ x y d. CaseWalks X (case_trees x) (case_trees y) d) xs ys c → map is_default_case (map case_trees ys) ≡ map is_default_case (map case_trees xs)
@@ -178,9 +185,9 @@ switch_rolled {X} {c} {d} n a ys h k =
     let rolled = out-roll-SwitchStmt (record { span = (out-SwitchStmt n).span; discriminant = a; cases = (out-SwitchStmt n).cases }) in
     switch_made (out-SwitchStmt n).span (out-SwitchStmt n).discriminant a (out-SwitchStmt n).cases ys (switch_tree-is n) (switch_tree-roll _ _ ys ∙ ap (λ z. switch_node expr_tree case_trees z.span z.discriminant ys) rolled) h (subst (λ z. Each (λ x y d. CaseWalks X (case_trees x) (case_trees y) d) z.cases.items ys.items d) rolled k)
 
-pub case_made : {X : Pass} {p q : CaseTrees} {d : Bool} (c : Bool) (s : Span) (a b : Option (Box Expr Global)) (xs ys : Vec Stmt Global) → p ≡ case_parts expr_tree stmt_tree s a xs → q ≡ case_parts expr_tree stmt_tree s b ys → OptionWalks X expr_tree a b c → ListMade X tree.CaseBody d (list_trees stmt_tree xs.items) (list_trees stmt_tree ys.items) → CaseWalks X p q (c || d)
+pub case_made : {X : Pass} {p q : CaseTrees} {d : Bool} (c : Bool) (s : Span) (a b : Option (Box Expr Global)) (xs ys : Vec Stmt Global) → p ≡ case_parts expr_tree stmt_tree s a xs → q ≡ case_parts expr_tree stmt_tree s b ys → OptionWalks X expr_tree a b c → PartWalks X place.Case xs.items ys.items d → CaseWalks X p q (c || d)
 case_made {X} {p} {q} {d} c s a b xs ys e f h k =
-    subst (λ z. CaseWalks X z q (c || d)) (sym e) (subst (λ z. CaseWalks X (case_parts expr_tree stmt_tree s a xs) z (c || d)) (sym f) (record { tests = c; bodies = d; kind = option_missing X expr_tree a b c h; test = option_tree expr_tree a b c h; body = passes refl (block refl k); either = refl }))
+    subst (λ z. CaseWalks X z q (c || d)) (sym e) (subst (λ z. CaseWalks X (case_parts expr_tree stmt_tree s a xs) z (c || d)) (sym f) (record { tests = c; bodies = d; kind = option_missing X expr_tree a b c h; test = option_tree expr_tree a b c h; body = k refl (s ∷ []); either = refl }))
 
 -- declarations
 pub declarator_made : {X : Pass} (m n : VarDeclarator Expr) (c : Bool) → n ≡ record m { init = n.init } → OptionWalks X expr_tree m.init n.init c → DeclaratorWalks X m n c
@@ -204,8 +211,36 @@ pub var_arm : {X : Pass} {e f : Decl} {n m : VarDecl Expr} {c : Bool} (a : VarDe
 var_arm {X} {e} {f} {n} {m} {c} a is same after w =
     declared_at (ap decl_tree is ∙ decl_tree-Var n ∙ ap (var_tree expr_tree) (sym same)) (ap decl_tree after ∙ decl_tree-Var _) w
 
-pub init_var : {X : Pass} {c : Bool} (e f : VarDeclOrExpr Expr) (n m : VarDecl Expr) (a : VarDecl Expr) → e ≡ init.VarDecl n → m ≡ n → f ≡ init.VarDecl a → DeclWalks X (var_tree expr_tree m) (var_tree expr_tree a) c → Walks X c (init_tree expr_tree e) (init_tree expr_tree f)
-init_var e f n m a is same after w = walks_at (ap (init_tree expr_tree) is ∙ ap (var_tree expr_tree) (sym same)) (ap (init_tree expr_tree) after) (passes refl (decl_entered w))
+-- the head of a `for`
+pub head_at : {X : Pass} {c : Bool} {a b x y : Tree} → a ≡ x → b ≡ y → HeadWalks X x y c → HeadWalks X a b c
+head_at {X} {c} {a} {b} {x} {y} p q h = subst (λ z. HeadWalks X z b c) (sym p) (subst (λ z. HeadWalks X x z c) (sym q) h)
 
-pub init_expr : {X : Pass} {c : Bool} (e f : VarDeclOrExpr Expr) (n m : Box Expr Global) (a : Box Expr Global) → e ≡ init.Expr n → m ≡ n → f ≡ init.Expr a → Walks X c (expr_tree m.value) (expr_tree a.value) → Walks X c (init_tree expr_tree e) (init_tree expr_tree f)
-init_expr e f n m a is same after w = walks_at (ap (init_tree expr_tree) is ∙ ap (λ k. expr_tree k.value) (sym same)) (ap (init_tree expr_tree) after) w
+-- whether a label is that of a declaration of variables
+abbrev declares_variables : Tree → Bool
+declares_variables (node (tree.VarDecl k) ss ts) = true
+declares_variables (node l ss ts) = false
+
+head_declares : {X : Pass} {c : Bool} {t u : Tree} → declares_variables t ≡ true → DeclWalks X t u c → HeadWalks X t u c
+head_declares v (declared {l = tree.VarDecl k} i e f ws) = declares e f ws
+head_declares v (declared {l = tree.FnDecl x} i e f ws) = absurd (false≢true (sym (ap declares_variables e) ∙ v))
+head_declares v (declared {l = l} i e f ws) = absurd (false≢true i)
+
+-- a list that is not entered, or is walked
+pub part_shut : {X : Pass} (p : ListPlace) (xs : List Stmt) → Shut X (list_label p) (list_trees stmt_tree xs) → PartWalks X p xs xs false
+part_shut p xs s = λ b ss. closed (s ss)
+
+pub part_walks : {X : Pass} {c : Bool} (p : ListPlace) (xs ys : List Stmt) → ListWalks X p xs ys c → PartWalks X p xs ys c
+part_walks place.Block xs ys w = λ b ss. passes refl (block refl w)
+part_walks place.Body xs ys w = λ b ss. passes refl (block refl w)
+part_walks place.Case xs ys w = λ b ss. passes refl (block refl w)
+part_walks place.Script xs ys w = λ b ss. absurd (false≢true b)
+
+pub init_var : {X : Pass} {c : Bool} (e f : VarDeclOrExpr Expr) (n m : VarDecl Expr) (a : VarDecl Expr) → e ≡ init.VarDecl n → m ≡ n → f ≡ init.VarDecl a → DeclWalks X (var_tree expr_tree m) (var_tree expr_tree a) c → HeadWalks X (init_tree expr_tree e) (init_tree expr_tree f) c
+init_var e f n m a is same after w = head_at (ap (init_tree expr_tree) is ∙ ap (var_tree expr_tree) (sym same)) (ap (init_tree expr_tree) after) (head_declares refl w)
+
+-- one that is not entered
+pub init_shut : {X : Pass} (e : VarDeclOrExpr Expr) (n : VarDecl Expr) → e ≡ init.VarDecl n → X.skips (only_head (var_tree expr_tree n)) → HeadWalks X (init_tree expr_tree e) (var_tree expr_tree n) false
+init_shut {X} e n is s = stays_shut (subst (λ k. X.skips (only_head (init_tree expr_tree k))) (sym is) s) (sym (ap (init_tree expr_tree) is)) refl
+
+pub init_expr : {X : Pass} {c : Bool} (e f : VarDeclOrExpr Expr) (n m : Box Expr Global) (a : Box Expr Global) → e ≡ init.Expr n → m ≡ n → f ≡ init.Expr a → Walks X c (expr_tree m.value) (expr_tree a.value) → HeadWalks X (init_tree expr_tree e) (init_tree expr_tree f) c
+init_expr e f n m a is same after w = walked (walks_at (ap (init_tree expr_tree) is ∙ ap (λ k. expr_tree k.value) (sym same)) (ap (init_tree expr_tree) after) w)

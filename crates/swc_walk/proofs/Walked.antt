@@ -9,8 +9,8 @@ use Rattle.swc_ast.specs.Parts.{list_trees, then_all}
 use Rattle.swc_ast.specs.declared.Span.{Span}
 use Rattle.swc_walk.specs.declared.rules.Place.{Place}
 use Rattle.swc_walk.specs.declared.rules.Place.TheVariants as place
-use Rattle.swc_walk.specs.Walks.{Walks, closed, opened, passes, stands, stepped, Entered, plain, exported, imports, block, ListMade, listed, tidied, Whole, whole, AllWalk, nothing, both, Inside, parts, Opened, Stepped, Became, Fits, Placed, Each, none, more}
-use Rattle.swc_walk.specs.Pass.{Pass, is_visited, is_plain, is_unvisited, are_unvisited, is_shallow}
+use Rattle.swc_walk.specs.Walks.{Walks, closed, opened, passes, stands, stepped, Entered, plain, exported, headed, head_shut, imports, block, ListMade, listed, tidied, Whole, shut, whole, AllWalk, nothing, both, Inside, parts, Opened, Stepped, Became, Fits, Placed, Each, none, more}
+use Rattle.swc_walk.specs.Pass.{Pass, is_visited, may_pass, is_plain, is_unvisited, are_unvisited, is_shallow}
 
 pub or_assoc : (a b c : Bool) → ((a || b) || c) ≡ (a || (b || c))
 or_assoc true b c = refl
@@ -49,10 +49,15 @@ pub none_of : (b : Bool) → not b ≡ true → b ≡ false
 none_of false h = refl
 none_of true h = absurd (false≢true h)
 
+-- what may go unseen, no rule sees everywhere
+pub pass_unseen : (l : Label) → may_pass l ≡ true → is_visited l ≡ false
+pass_unseen (tree.VarDecl k) h = refl
+pass_unseen l h = none_of (is_visited l) h
+
 -- nodes that no rule sees
 mutual
   pub walks_unvisited : (X : Pass) (t : Tree) → is_unvisited t ≡ true → Walks X false t t
-  walks_unvisited X (node l ss ts) h = passes (none_of (is_visited l) (and_left (not (is_visited l)) (are_unvisited ts) (and_right (is_plain l) (not (is_visited l) && are_unvisited ts) h))) (plain (and_left (is_plain l) (not (is_visited l) && are_unvisited ts) h) (all_unvisited X ts (and_right (not (is_visited l)) (are_unvisited ts) (and_right (is_plain l) (not (is_visited l) && are_unvisited ts) h))))
+  walks_unvisited X (node l ss ts) h = passes (and_left (may_pass l) (are_unvisited ts) (and_right (is_plain l) (may_pass l && are_unvisited ts) h)) (plain (and_left (is_plain l) (may_pass l && are_unvisited ts) h) (all_unvisited X ts (and_right (may_pass l) (are_unvisited ts) (and_right (is_plain l) (may_pass l && are_unvisited ts) h))))
 
   pub all_unvisited : (X : Pass) (ts : Forest) → are_unvisited ts ≡ true → AllWalk X false ts ts
   all_unvisited X ε h = nothing
@@ -86,6 +91,8 @@ mutual
   pub entered_same : {X : Pass} {c : Bool} {a b : Tree} → Entered X c a b → c ≡ false → b ≡ a
   entered_same (plain {l = l} {ss = ss} i ts) h = ap (node l ss) (all_same ts h)
   entered_same (exported {l = l} {ss = ss} {rs = rs} i ts) h = ap (λ k. node tree.ExportDecl ss (node l rs k ⊳ ε)) (all_same ts h)
+  entered_same (headed {c = c} {d = d} {k = k} {ss = ss} {rs = rs} ds ts) h = cc (all_same ds (or_left c d h), all_same ts (or_right c d h))
+  entered_same (head_shut {h = head} {ss = ss} i ts) h = ap (λ k. node tree.For ss (head ⊳ k)) (all_same ts h)
   entered_same (imports i) h = refl
   entered_same (block {l = l} {ss = ss} i w) h = ap (node l ss) (list_same w h)
 
@@ -97,17 +104,17 @@ mutual
   all_same nothing h = refl
   all_same (both {c = c} {d = d} w ws) h = cc (walks_same w (or_left c d h), all_same ws (or_right c d h))
 
-pub passed : {X : Pass} {c : Bool} {l : Label} {ss : List Span} {ts us : Forest} → is_visited l ≡ false → is_plain l ≡ true → AllWalk X c ts us → Walks X c (node l ss ts) (node l ss us)
+pub passed : {X : Pass} {c : Bool} {l : Label} {ss : List Span} {ts us : Forest} → may_pass l ≡ true → is_plain l ≡ true → AllWalk X c ts us → Walks X c (node l ss ts) (node l ss us)
 passed h i ws = passes h (plain i ws)
 
 -- a node that no rule sees but one of its own
-abbrev pub sees : Tree → Bool
-sees (node l ss ts) = is_visited l
+abbrev pub is_passed : Tree → Bool
+is_passed (node l ss ts) = may_pass l
 
-passed_by : {X : Pass} {c : Bool} {a b : Tree} → sees b ≡ false → Inside X c a b → Walks X c a b
+passed_by : {X : Pass} {c : Bool} {a b : Tree} → is_passed b ≡ true → Inside X c a b → Walks X c a b
 passed_by h (parts i ts) = passes h (plain i ts)
 
-pub shortened : {X : Pass} {a b e : Tree} (c d : Bool) → sees b ≡ false → Inside X c a b → Stepped X d b e → Walks X (c || d) a e
+pub shortened : {X : Pass} {a b e : Tree} (c d : Bool) → is_passed b ≡ true → Inside X c a b → Stepped X d b e → Walks X (c || d) a e
 shortened {X} {a} {b} {e} c true h w s = subst (λ k. Walks X k a e) (sym (or_true c)) (stepped (inside_entered w) s)
 shortened {X} {a} {b} {e} c false h w s = subst (λ k. Walks X k a e) (sym (or_none c)) (subst (λ k. Walks X c a k) (sym s) (passed_by h w))
 
@@ -121,6 +128,7 @@ pub entered_at : {X : Pass} {c : Bool} {a b x y : Tree} → a ≡ x → b ≡ y 
 entered_at {X} {c} {a} {b} {x} {y} p q h = subst (λ z. Entered X c z b) (sym p) (subst (λ z. Entered X c x z) (sym q) h)
 
 pub whole_same : {X : Pass} {c : Bool} {a b : Tree} → Whole X c a b → c ≡ false → b ≡ a
+whole_same (shut s) h = refl
 whole_same (whole {l = l} {ss = ss} i w) h = ap (node l ss) (list_same w h)
 
 -- a node whose label is the same fits where the other does

@@ -1,6 +1,7 @@
 -- Lists of statements: each is the children of one node.
 use Rattle.std.specs.Prelude.{Bool, true, false, ◌≡◌, List}
-use Rattle.swc_ast.specs.Tree.{Label, Block, Body, CaseBody, Script, Module}
+use Rattle.swc_ast.specs.Tree.{Label, Block, Body, CaseBody, Script, Module, Tree, node, Forest}
+use Rattle.swc_ast.specs.declared.Span.{Span}
 use Rattle.swc_ast.specs.Parts.{list_trees}
 use Rattle.swc_ast.specs.Modules.{item_tree}
 use Rattle.swc_ast.specs.Views.{stmt_tree}
@@ -8,8 +9,8 @@ use Rattle.swc_ast.specs.declared.modules.ModuleItem.{ModuleItem}
 use Rattle.swc_ast.specs.declared.statements.Stmt.{Stmt}
 use Rattle.swc_walk.specs.declared.rules.ListPlace.{ListPlace}
 use Rattle.swc_walk.specs.declared.rules.ListPlace.TheVariants as place
-use Rattle.swc_walk.specs.Walks.{ListMade}
-use Rattle.swc_walk.specs.Pass.{Pass}
+use Rattle.swc_walk.specs.Walks.{Walks, ListMade}
+use Rattle.swc_walk.specs.Pass.{Pass, is_block}
 
 -- the label of the node whose children the list is
 abbrev pub list_label : ListPlace → Label
@@ -26,6 +27,14 @@ ListBecame X p false xs ys = (list_trees stmt_tree ys ≡ list_trees stmt_tree x
 -- a list whose statements are walked, and then the list
 abbrev pub ListWalks : Pass → ListPlace → List Stmt → List Stmt → Bool → Type 0
 ListWalks X p xs ys c = ListMade X (list_label p) c (list_trees stmt_tree xs) (list_trees stmt_tree ys)
+
+-- a list that is not entered, whatever the spans of its node are
+abbrev pub Shut : Pass → Label → Forest → Type 0
+Shut X l ts = (ss : List Span) → X.skips (node l ss ts)
+
+-- a list in a node that no rule sees
+abbrev pub PartWalks : Pass → ListPlace → List Stmt → List Stmt → Bool → Type 0
+PartWalks X p xs ys c = is_block (list_label p) ≡ true → (ss : List Span) → Walks X c (node (list_label p) ss (list_trees stmt_tree xs)) (node (list_label p) ss (list_trees stmt_tree ys))
 
 -- the same of the items of a module
 abbrev pub ItemsBecame : Pass → Bool → List ModuleItem → List ModuleItem → Type 0

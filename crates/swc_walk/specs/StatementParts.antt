@@ -1,6 +1,6 @@
 -- What the walk makes of the parts of functions and statements.
-use Rattle.std.specs.Prelude.{Bool, true, ◌||◌, ◌≡◌, List, Option}
-use Rattle.swc_ast.specs.Tree.{Label, Tree, node, Forest, ε, ◌⊳◌}
+use Rattle.std.specs.Prelude.{Bool, true, false, ◌||◌, ◌≡◌, List, Option}
+use Rattle.swc_ast.specs.Tree.{Label, VarDecl, Tree, node, Forest, ε, ◌⊳◌}
 use Rattle.swc_ast.specs.Expressions.{FunctionTrees}
 use Rattle.swc_ast.specs.Statements.{LoopTrees, CaseTrees, declarator_tree, handler_param, handler_spans, handler_tree}
 use Rattle.swc_ast.specs.Views.{expr_tree, stmt_tree}
@@ -11,8 +11,8 @@ use Rattle.swc_ast.specs.declared.expressions.Expr.{Expr}
 use Rattle.swc_ast.specs.declared.statements.CatchClause.{CatchClause}
 use Rattle.swc_ast.specs.declared.statements.Stmt.{Stmt}
 use Rattle.swc_walk.specs.Walks.{Walks, AllWalk}
-pub use Rattle.swc_walk.specs.Lists.{ListWalks}
-use Rattle.swc_walk.specs.Pass.{Pass, is_declaration}
+pub use Rattle.swc_walk.specs.Lists.{ListWalks, PartWalks}
+use Rattle.swc_walk.specs.Pass.{Pass, is_declaration, only_head}
 
 -- a function, whatever node it is the rest of
 pub record FunctionWalks (X : Pass) (f g : FunctionTrees) (c : Bool) : Type 0 where
@@ -50,3 +50,9 @@ DeclaratorWalks X a b c = (k : VarDeclKind) → Walks X c (declarator_tree expr_
 -- a declaration, which stays one
 pub data DeclWalks (X : Pass) (t u : Tree) (c : Bool) : Type 0 where
   declared : {l : Label} {ss : List Span} {ts us : Forest} → is_declaration l ≡ true → t ≡ node l ss ts → u ≡ node l ss us → AllWalk X c ts us → DeclWalks X t u c
+
+-- the head of a `for`: an expression or none, or a declaration, which is entered or not
+pub data HeadWalks (X : Pass) (t u : Tree) (c : Bool) : Type 0 where
+  walked : Walks X c t u → HeadWalks X t u c
+  declares : {k : VarDeclKind} {ss : List Span} {ts us : Forest} → t ≡ node (VarDecl k) ss ts → u ≡ node (VarDecl k) ss us → AllWalk X c ts us → HeadWalks X t u c
+  stays_shut : X.skips (only_head t) → u ≡ t → c ≡ false → HeadWalks X t u c

@@ -1,10 +1,11 @@
 -- What a walk makes of a tree: a step in front, if any, then its children are walked, then the list that they are, and then a
 -- step is taken at the node, or it stands, as no rule fits it. The truth value says whether a step was taken anywhere.
 use Rattle.std.specs.Prelude.{Bool, true, false, ◌||◌, ◌≡◌, IsFalse, List, [], ◌∷◌}
-use Rattle.swc_ast.specs.Tree.{Text, Label, Dot, Index, Read, Import, ExportDecl, Tree, node, Forest, ε, ◌⊳◌}
+use Rattle.swc_ast.specs.Tree.{Text, Label, Dot, Index, Read, For, VarDecl, Import, ExportDecl, Tree, node, Forest, ε, ◌⊳◌}
 use Rattle.swc_ast.specs.Expressions.{is_eval}
 use Rattle.swc_ast.specs.declared.Span.{Span}
-use Rattle.swc_walk.specs.Pass.{Pass, is_visited, is_plain, is_block, is_whole, are_unvisited, is_declaration}
+use Rattle.swc_ast.specs.declared.VarDeclKind.{VarDeclKind}
+use Rattle.swc_walk.specs.Pass.{Pass, may_pass, is_plain, is_block, is_whole, are_unvisited, is_declaration, only_head}
 use Rattle.swc_walk.specs.declared.rules.Place.{Place}
 use Rattle.swc_walk.specs.declared.rules.Place.TheVariants as place
 
@@ -15,7 +16,7 @@ mutual
     -- a node that took a step before it was walked
     opened : {c : Bool} {t u v : Tree} → X.opens t u → Walks X c u v → Walks X true t v
     -- a node that no rule sees
-    passes : {c : Bool} {l : Label} {ss : List Span} {t : Tree} {us : Forest} → is_visited l ≡ false → Entered X c t (node l ss us) → Walks X c t (node l ss us)
+    passes : {c : Bool} {l : Label} {ss : List Span} {t : Tree} {us : Forest} → may_pass l ≡ true → Entered X c t (node l ss us) → Walks X c t (node l ss us)
     -- a node that no rule fits
     stands : {c : Bool} {a b : Tree} → Entered X c a b → X.rests b → Walks X c a b
     stepped : {c : Bool} {a b d : Tree} → Entered X c a b → X.steps b d → Walks X true a d
@@ -24,6 +25,9 @@ mutual
   pub data Entered (X : Pass) : Bool → Tree → Tree → Type 0 where
     plain : {c : Bool} {l : Label} {ss : List Span} {ts us : Forest} → is_plain l ≡ true → AllWalk X c ts us → Entered X c (node l ss ts) (node l ss us)
     exported : {c : Bool} {l : Label} {ss rs : List Span} {ts us : Forest} → is_declaration l ≡ true → AllWalk X c ts us → Entered X c (node ExportDecl ss (node l rs ts ⊳ ε)) (node ExportDecl ss (node l rs us ⊳ ε))
+    -- the head of a `for`: a declaration, which is entered or not
+    headed : {c d : Bool} {k : VarDeclKind} {ss rs : List Span} {ds es ts us : Forest} → AllWalk X c ds es → AllWalk X d ts us → Entered X (c || d) (node For ss (node (VarDecl k) rs ds ⊳ ts)) (node For ss (node (VarDecl k) rs es ⊳ us))
+    head_shut : {c : Bool} {h : Tree} {ss : List Span} {ts us : Forest} → X.skips (only_head h) → AllWalk X c ts us → Entered X c (node For ss (h ⊳ ts)) (node For ss (h ⊳ us))
     imports : {src : Text} {ss : List Span} {ts : Forest} → are_unvisited ts ≡ true → Entered X false (node (Import src) ss ts) (node (Import src) ss ts)
     block : {c : Bool} {l : Label} {ss : List Span} {ts us : Forest} → is_block l ≡ true → ListMade X l c ts us → Entered X c (node l ss ts) (node l ss us)
 
@@ -38,6 +42,8 @@ mutual
 
 -- a module or a script
 pub data Whole (X : Pass) : Bool → Tree → Tree → Type 0 where
+  -- one that is not entered
+  shut : {t : Tree} → X.skips t → Whole X false t t
   whole : {c : Bool} {l : Label} {ss : List Span} {ts us : Forest} → is_whole l ≡ true → ListMade X l c ts us → Whole X c (node l ss ts) (node l ss us)
 
 -- a walk of a module or a script, and whether it changed it

@@ -2,15 +2,18 @@
 ghost use Rattle.std.specs.Prelude.{◌≡◌, ◌≤◌, IfOk, IsFalse};
 ghost use Rattle.swc_ast.specs.Expressions.{param_tree};
 ghost use Rattle.swc_ast.specs.Modules.{item_tree};
+ghost use Rattle.swc_ast.specs.Parts.{list_trees};
+ghost use Rattle.swc_ast.specs.Statements.{var_tree};
+ghost use Rattle.swc_ast.specs.Tree.{Module};
 ghost use Rattle.swc_ast.specs.Views.{expr_tree, stmt_tree};
 ghost use Rattle.swc_ast.specs.declared.expressions.Expr.{size-Expr};
 ghost use Rattle.swc_ast.specs.declared.statements.Stmt.{size-Stmt};
-ghost use Rattle.swc_walk.specs.Pass.{Pass};
+ghost use Rattle.swc_walk.specs.Pass.{Pass, only_head};
 ghost use Rattle.swc_walk.specs.Walks.{Became, Fits, Opened, Stepped};
-ghost use Rattle.swc_walk.specs.Lists.{ItemsBecame, ListBecame};
+ghost use Rattle.swc_walk.specs.Lists.{ItemsBecame, ListBecame, Shut, list_label};
 
 use std::alloc::AllocError;
-use swc_ast::{Expr, ModuleItem, Pat, Stmt};
+use swc_ast::{Expr, ModuleItem, Pat, Stmt, VarDecl};
 
 /// Where an expression stands.
 #[derive(Clone, Copy, Debug, PartialEq, Eq)]
@@ -73,6 +76,34 @@ pub trait Rules {
     /// Whether the walk goes into a statement.
     fn enters_stmt(&self, _s: &Stmt) -> bool
         ensures { IsFalse result → (pass self.now).skips (stmt_tree _s.now) }
+    {
+        true
+    }
+
+    /// Whether the walk goes into a list of statements: a body, a case, a script, or a block that is no statement.
+    fn enters_list(&self, _place: ListPlace, _stmts: &Vec<Stmt>) -> bool
+        ensures { IsFalse result → Shut (pass self.now) (list_label _place) (list_trees stmt_tree _stmts.now.items) }
+    {
+        true
+    }
+
+    /// Whether the walk goes into the items of a module.
+    fn enters_items(&self, _items: &Vec<ModuleItem>) -> bool
+        ensures { IsFalse result → Shut (pass self.now) Module (list_trees item_tree _items.now.items) }
+    {
+        true
+    }
+
+    /// Whether the walk goes into an item of a module.
+    fn enters_item(&self, _item: &ModuleItem) -> bool
+        ensures { IsFalse result → (pass self.now).skips (item_tree _item.now) }
+    {
+        true
+    }
+
+    /// Whether the walk goes into the declaration in the head of a `for`.
+    fn enters_head(&self, _n: &VarDecl) -> bool
+        ensures { IsFalse result → (pass self.now).skips (only_head (var_tree expr_tree _n.now)) }
     {
         true
     }

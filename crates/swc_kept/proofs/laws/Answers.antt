@@ -1,11 +1,15 @@
 use Rattle.std.proofs.Common.{refl}
 use Rattle.swc_walk.proofs.Walked.{whole_same}
 use Rattle.swc_kept.proofs.Plain.{right_same}
+use Rattle.swc_kept.proofs.Dying.{dying_same}
 use Rattle.swc_kept.proofs.Static.{whole_resolved, whole_core, whole_falls, whole_free}
 use Rattle.swc_kept.proofs.laws.Goals as goal
 
 pub returns-clause-same : goal.returns-clause-same
 returns-clause-same g c = λ mark p loads d t u w. right_same p loads w
+
+pub returns-clause-dying : goal.returns-clause-dying
+returns-clause-dying g c = λ mark r loads d t u e k s w. dying_same mark r loads e k s w
 
 pub returns-clause-resolved : goal.returns-clause-resolved
 returns-clause-resolved g c = λ n p f mark d t u e w r. whole_resolved f e w r

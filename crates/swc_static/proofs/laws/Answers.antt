@@ -1,6 +1,7 @@
 use Rattle.swc_static.proofs.Bare.{same_exactly}
 use Rattle.swc_static.proofs.Free.{free_of_both}
 use Rattle.swc_static.proofs.Whole.{resolved_kept, core_kept}
+use Rattle.swc_static.proofs.ShapedViews.{module_shaped, script_shaped}
 use Rattle.swc_static.proofs.laws.Goals as goal
 
 pub returns-clause-resolved : goal.returns-clause-resolved
@@ -14,3 +15,9 @@ returns-clause-exactly c = λ n t u w e. same_exactly w e
 
 pub returns-clause-free : goal.returns-clause-free
 returns-clause-free c = λ t h i. free_of_both t h i
+
+pub returns-clause-modules : goal.returns-clause-modules
+returns-clause-modules c = λ m. module_shaped m
+
+pub returns-clause-scripts : goal.returns-clause-scripts
+returns-clause-scripts c = λ s. script_shaped s

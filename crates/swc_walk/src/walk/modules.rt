@@ -11,18 +11,24 @@ use crate::walk::statements::{walk_decl, walk_list, walk_stmt};
 use std::alloc::AllocError;
 use swc_ast::{Module, ModuleDecl, ModuleItem, Script};
 
-/// Walks a script: its statements, and then the list of them.
+/// Walks a script, if it is entered: its statements, and then the list of them.
 pub fn walk_script<R: Rules>(rules: &R, n: &mut Script) -> Result<bool, AllocError>
     ensures { IfOk result (λ c. WholeMade (R.pass rules.now) (script_tree n.old) (script_tree n.new) c) }
 {
+    if !rules.enters_list(ListPlace::Script, &n.body) {
+        return Ok(false);
+    }
     let made = walk_list(rules, ListPlace::Script, &mut n.body)?;
     Ok(made)
 }
 
-/// Walks a module: its items, and then the list of them.
+/// Walks a module, if it is entered: its items, and then the list of them.
 pub fn walk_module<R: Rules>(rules: &R, n: &mut Module) -> Result<bool, AllocError>
     ensures { IfOk result (λ c. WholeMade (R.pass rules.now) (module_tree n.old) (module_tree n.new) c) }
 {
+    if !rules.enters_items(&n.body) {
+        return Ok(false);
+    }
     let inside = walk_module_items(rules, &mut n.body)?;
     let left = rules.leave_items(&mut n.body)?;
     Ok(inside | left)
@@ -39,10 +45,13 @@ fn walk_module_items<R: Rules>(rules: &R, items: &mut Vec<ModuleItem>) -> Result
     Ok(changed)
 }
 
-/// Walks an item: its parts, and then the item, if it is no statement.
+/// Walks an item, if it is entered: its parts, and then the item, if it is no statement.
 fn walk_module_item<R: Rules>(rules: &R, item: &mut ModuleItem) -> Result<bool, AllocError>
     ensures { IfOk result (λ c. Made (R.pass rules.now) (item_tree item.old) (item_tree item.new) c) }
 {
+    if !rules.enters_item(item) {
+        return Ok(false);
+    }
     match item {
         ModuleItem::ModuleDecl(n) => {
             let inside = walk_module_decl(rules, n)?;

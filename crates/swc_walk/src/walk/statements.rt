@@ -5,7 +5,7 @@ ghost use Rattle.swc_ast.specs.Statements.{block_tree, option_block_tree, option
 ghost use Rattle.swc_ast.specs.Views.{expr_tree, stmt_tree, decl_tree, if_tree, switch_tree, case_trees, loop_trees, for_tree};
 ghost use Rattle.swc_walk.specs.Walks.{Made, Ready, Each};
 ghost use Rattle.swc_walk.specs.Parts.{OptionWalks};
-ghost use Rattle.swc_walk.specs.StatementParts.{ListWalks, HandlerWalks, CaseWalks, LoopWalks, DeclaratorWalks, DeclWalks};
+ghost use Rattle.swc_walk.specs.StatementParts.{ListWalks, PartWalks, HandlerWalks, CaseWalks, LoopWalks, HeadWalks, DeclaratorWalks, DeclWalks};
 
 use crate::rules::{ListPlace, Place, Rules};
 use crate::walk::expressions::{walk_boxed, walk_boxed_function, walk_option};
@@ -19,7 +19,7 @@ use swc_ast::{
 pub fn walk_body<R: Rules>(rules: &R, n: &mut BlockStmt) -> Result<bool, AllocError>
     ensures { IfOk result (λ c. Made (R.pass rules.now) (body_tree stmt_tree n.old) (body_tree stmt_tree n.new) c) }
 {
-    let made = walk_list(rules, ListPlace::Body, &mut n.stmts)?;
+    let made = walk_part(rules, ListPlace::Body, &mut n.stmts)?;
     Ok(made)
 }
 
@@ -28,6 +28,31 @@ pub fn walk_block<R: Rules>(rules: &R, n: &mut BlockStmt) -> Result<bool, AllocE
     ensures { IfOk result (λ c. Ready (R.pass rules.now) (block_tree stmt_tree n.old) (block_tree stmt_tree n.new) c) }
 {
     let made = walk_list(rules, ListPlace::Block, &mut n.stmts)?;
+    Ok(made)
+}
+
+/// Walks a block that is no statement.
+#[cycle(walk)]
+pub fn walk_inner_block<R: Rules>(rules: &R, n: &mut BlockStmt) -> Result<bool, AllocError>
+    ensures { IfOk result (λ c. Made (R.pass rules.now) (block_tree stmt_tree n.old) (block_tree stmt_tree n.new) c) }
+{
+    let made = walk_part(rules, ListPlace::Block, &mut n.stmts)?;
+    Ok(made)
+}
+
+/// Walks a list that is no statement, if it is entered.
+#[cycle(walk)]
+pub fn walk_part<R: Rules>(
+    rules: &R,
+    place: ListPlace,
+    stmts: &mut Vec<Stmt>,
+) -> Result<bool, AllocError>
+    ensures { IfOk result (λ c. PartWalks (R.pass rules.now) place stmts.old.items stmts.new.items c) }
+{
+    if !rules.enters_list(place, stmts) {
+        return Ok(false);
+    }
+    let made = walk_list(rules, place, stmts)?;
     Ok(made)
 }
 
@@ -104,7 +129,7 @@ pub fn walk_stmt_parts<R: Rules>(rules: &R, s: &mut Stmt) -> Result<bool, AllocE
             Ok(made)
         }
         Stmt::Try(n) => {
-            let block = walk_block(rules, &mut n.block)?;
+            let block = walk_inner_block(rules, &mut n.block)?;
             let handler = walk_handler(rules, &mut n.handler)?;
             let finalizer = walk_finalizer(rules, &mut n.finalizer)?;
             Ok(block | (handler | finalizer))
@@ -158,7 +183,7 @@ pub fn walk_handler<R: Rules>(rules: &R, h: &mut Option<CatchClause>) -> Result<
 {
     match h {
         Some(n) => {
-            let made = walk_block(rules, &mut n.body)?;
+            let made = walk_inner_block(rules, &mut n.body)?;
             Ok(made)
         }
         None => Ok(false),
@@ -171,7 +196,7 @@ pub fn walk_finalizer<R: Rules>(rules: &R, f: &mut Option<BlockStmt>) -> Result<
 {
     match f {
         Some(n) => {
-            let made = walk_block(rules, n)?;
+            let made = walk_inner_block(rules, n)?;
             Ok(made)
         }
         None => Ok(false),
@@ -214,7 +239,7 @@ pub fn walk_case<R: Rules>(rules: &R, n: &mut SwitchCase) -> Result<bool, AllocE
     ensures { IfOk result (λ c. CaseWalks (R.pass rules.now) (case_trees n.old) (case_trees n.new) c) }
 {
     let test = walk_option(rules, &mut n.test)?;
-    let cons = walk_list(rules, ListPlace::Case, &mut n.cons)?;
+    let cons = walk_part(rules, ListPlace::Case, &mut n.cons)?;
     Ok(test | cons)
 }
 
@@ -240,7 +265,7 @@ pub fn walk_for<R: Rules>(rules: &R, n: &mut ForStmt) -> Result<bool, AllocError
 
 #[cycle(walk)]
 pub fn walk_init<R: Rules>(rules: &R, i: &mut Option<VarDeclOrExpr>) -> Result<bool, AllocError>
-    ensures { IfOk result (λ c. Made (R.pass rules.now) (option_init_tree expr_tree i.old) (option_init_tree expr_tree i.new) c) }
+    ensures { IfOk result (λ c. HeadWalks (R.pass rules.now) (option_init_tree expr_tree i.old) (option_init_tree expr_tree i.new) c) }
 {
     match i {
         None => Ok(false),
@@ -253,10 +278,13 @@ pub fn walk_init<R: Rules>(rules: &R, i: &mut Option<VarDeclOrExpr>) -> Result<b
 
 #[cycle(walk)]
 pub fn walk_var_or_expr<R: Rules>(rules: &R, i: &mut VarDeclOrExpr) -> Result<bool, AllocError>
-    ensures { IfOk result (λ c. Made (R.pass rules.now) (init_tree expr_tree i.old) (init_tree expr_tree i.new) c) }
+    ensures { IfOk result (λ c. HeadWalks (R.pass rules.now) (init_tree expr_tree i.old) (init_tree expr_tree i.new) c) }
 {
     match i {
         VarDeclOrExpr::VarDecl(n) => {
+            if !rules.enters_head(n) {
+                return Ok(false);
+            }
             let made = walk_var(rules, n)?;
             Ok(made)
         }

@@ -1,7 +1,7 @@
 use Rattle.std.proofs.Common.{rules, refl, sym, ap, ◌∙◌, subst, false}
 use Rattle.swc_ast.proofs.Equations.{expr_tree-This, expr_tree-Ident, expr_tree-Lit, expr_tree-Invalid, prop_tree-Shorthand, stmt_tree-Empty, stmt_tree-Break, stmt_tree-Continue, function_trees-is, arrow_tree-is, if_tree-is, case_trees-is, loop_trees-is, for_tree-is}
 use Rattle.swc_walk.proofs.FunctionArms.{object_arm, fn_arm, arrow_arm, spread_arm, prop_arm, key_value_arm, method_arm, method_rolled, computed_key, assign_param, param_unseen, function_made, arrow_made, arrow_block, arrow_expr}
-use Rattle.swc_walk.proofs.StatementArms.{option_some, option_none, list_then, block_arm, return_arm, labeled_arm, throw_arm, expr_stmt_arm, if_arm, switch_arm, for_arm, decl_arm, while_arm, do_while_arm, loop_made, try_arm, handler_made, no_handler, if_made, for_made, switch_rolled, case_made, declarator_made, var_made, fn_decl_arm, var_arm, init_var, init_expr}
+use Rattle.swc_walk.proofs.StatementArms.{option_some, option_none, list_then, block_arm, return_arm, labeled_arm, throw_arm, expr_stmt_arm, if_arm, switch_arm, for_arm, decl_arm, while_arm, do_while_arm, loop_made, try_arm, handler_made, no_handler, if_made, for_made, switch_rolled, case_made, declarator_made, var_made, fn_decl_arm, var_arm, head_at, init_var, init_shut, init_expr, part_shut, part_walks}
 use Rattle.swc_walk.proofs.Walked.{walks_at, shortened, made_then, opened_then, opened_closed, placed_then, placed_opened, placed_closed, shallow_at, entered_at_shallow, unvisited_at, each_all, each_more}
 use Rattle.swc_walk.proofs.Arms.{bin_arm, cond_arm, unary_arm, update_arm, assign_arm, member_arm, call_arm, new_arm, seq_arm, tpl_arm, array_arm, member_parts}
 use Rattle.swc_walk.proofs.Targets.{shallow_lit, member_callee_at, plain_callee, kept_callee, plain_operand, kept_operand, member_target, name_target}
@@ -9,7 +9,8 @@ use Rattle.swc_ast.specs.declared.expressions.AssignTarget.TheVariants as target
 use Rattle.swc_ast.specs.Statements.{option_block_tree, option_init_tree}
 use Rattle.swc_ast.specs.Expressions.{key_tree, param_tree}
 use Rattle.swc_ast.specs.Views.{expr_tree, stmt_tree, prop_tree}
-use Rattle.swc_walk.specs.Walks.{none, passes, block}
+use Rattle.swc_walk.specs.Walks.{none, block}
+use Rattle.swc_walk.specs.StatementParts.{walked}
 use Rattle.swc_walk.specs.Parts.{TargetWalks}
 use Rattle.swc_walk.proofs.walk.+walk.Goals as goal
 
@@ -173,7 +174,16 @@ pub expressions::walk_arrow_body-returns-in_ok-made-in-Expr : goal.expressions::
 expressions::walk_arrow_body-returns-in_ok-made-in-Expr g t c = arrow_expr c.walk_boxed.new.e c.in-Expr.is c.in-Expr.n-is (search rules) c.in_ok-made-in-Expr.ensures.0
 
 pub statements::walk_body-returns : goal.statements::walk_body-returns
-statements::walk_body-returns g t c = passes refl (block refl c.in_ok-made.ensures)
+statements::walk_body-returns g t c = c.in_ok-made.ensures refl _
+
+pub statements::walk_inner_block-returns : goal.statements::walk_inner_block-returns
+statements::walk_inner_block-returns g t c = c.in_ok-made.ensures refl _
+
+pub statements::walk_part-returns-then-not-enters_list : goal.statements::walk_part-returns-then-not-enters_list
+statements::walk_part-returns-then-not-enters_list g t c = part_shut _ _ (c.if-not-enters_list.ensures refl)
+
+pub statements::walk_part-returns : goal.statements::walk_part-returns
+statements::walk_part-returns g t c = part_walks _ _ _ c.in_ok-made.ensures
 
 pub statements::walk_block-returns : goal.statements::walk_block-returns
 statements::walk_block-returns g t c = block refl c.in_ok-made.ensures
@@ -215,7 +225,7 @@ pub statements::walk_stmt_parts-returns-in_ok-made-in-Throw : goal.statements::w
 statements::walk_stmt_parts-returns-in_ok-made-in-Throw g t c = throw_arm c.walk_boxed.new.e c.in-Throw.is c.in-Throw.n-is (search rules) c.in_ok-made-in-Throw.ensures.0
 
 pub statements::walk_stmt_parts-returns-in_ok-finalizer-in-Try : goal.statements::walk_stmt_parts-returns-in_ok-finalizer-in-Try
-statements::walk_stmt_parts-returns-in_ok-finalizer-in-Try g t c = try_arm c.walk_block-in-Try.new.n c.walk_handler.new.h c.walk_finalizer.new.f c.in-Try.is c.in-Try.n-is (search rules) c.in_ok-block-in-Try.ensures c.in_ok-handler-in-Try.ensures c.in_ok-finalizer-in-Try.ensures
+statements::walk_stmt_parts-returns-in_ok-finalizer-in-Try g t c = try_arm c.walk_inner_block.new.n c.walk_handler.new.h c.walk_finalizer.new.f c.in-Try.is c.in-Try.n-is (search rules) c.in_ok-block-in-Try.ensures c.in_ok-handler-in-Try.ensures c.in_ok-finalizer-in-Try.ensures
 
 pub statements::walk_stmt_parts-returns-in_ok-made-in-While : goal.statements::walk_stmt_parts-returns-in_ok-made-in-While
 statements::walk_stmt_parts-returns-in_ok-made-in-While g t c = while_arm c.walk_loop.new.n c.in-While.is c.in-While.n-is (search rules) c.in_ok-made-in-While.ensures
@@ -239,13 +249,13 @@ pub statements::walk_alt-returns-in-None : goal.statements::walk_alt-returns-in-
 statements::walk_alt-returns-in-None g t c = option_none _ stmt_tree _ c.in-None.is
 
 pub statements::walk_handler-returns-in_ok-made-in-Some : goal.statements::walk_handler-returns-in_ok-made-in-Some
-statements::walk_handler-returns-in_ok-made-in-Some g t c = handler_made _ _ c.in-Some.n c.in-Some.n c.walk_block.new.n c.in-Some.is refl refl c.in_ok-made-in-Some.ensures
+statements::walk_handler-returns-in_ok-made-in-Some g t c = handler_made _ _ c.in-Some.n c.in-Some.n c.walk_inner_block.new.n c.in-Some.is refl refl c.in_ok-made-in-Some.ensures
 
 pub statements::walk_handler-returns-in-None : goal.statements::walk_handler-returns-in-None
 statements::walk_handler-returns-in-None g t c = no_handler _ _ c.in-None.is
 
 pub statements::walk_finalizer-returns-in_ok-made-in-Some : goal.statements::walk_finalizer-returns-in_ok-made-in-Some
-statements::walk_finalizer-returns-in_ok-made-in-Some g t c = walks_at (ap (option_block_tree stmt_tree) c.in-Some.is) refl (passes refl c.in_ok-made-in-Some.ensures)
+statements::walk_finalizer-returns-in_ok-made-in-Some g t c = walks_at (ap (option_block_tree stmt_tree) c.in-Some.is) refl c.in_ok-made-in-Some.ensures
 
 pub statements::walk_finalizer-returns-in-None : goal.statements::walk_finalizer-returns-in-None
 statements::walk_finalizer-returns-in-None g t c = unvisited_at _ (option_block_tree stmt_tree) (ap (option_block_tree stmt_tree) c.in-None.is) refl
@@ -257,7 +267,7 @@ pub statements::walk_switch-returns : goal.statements::walk_switch-returns
 statements::walk_switch-returns g t c = switch_rolled c.args.n.now c.walk_boxed.new.e c.walk_cases.new.cs c.in_ok-discriminant.ensures.0 c.in_ok-cases.ensures
 
 pub statements::walk_case-returns : goal.statements::walk_case-returns
-statements::walk_case-returns g t c = case_made _ _ c.args.n.now.test c.walk_option.new.e c.args.n.now.cons c.walk_list.new.stmts (case_trees-is _) (case_trees-is _) c.in_ok-test.ensures c.in_ok-cons.ensures
+statements::walk_case-returns g t c = case_made _ _ c.args.n.now.test c.walk_option.new.e c.args.n.now.cons c.walk_part.new.stmts (case_trees-is _) (case_trees-is _) c.in_ok-test.ensures c.in_ok-cons.ensures
 
 pub statements::walk_loop-returns : goal.statements::walk_loop-returns
 statements::walk_loop-returns g t c = loop_made _ c.args.n.now.test c.walk_boxed.new.e c.args.n.now.body c.walk_boxed_stmt.new.s (loop_trees-is _) (loop_trees-is _) c.in_ok-test.ensures.0 c.in_ok-body.ensures
@@ -266,10 +276,13 @@ pub statements::walk_for-returns : goal.statements::walk_for-returns
 statements::walk_for-returns g t c = for_made _ _ _ c.args.n.now.init c.walk_init.new.i c.args.n.now.test c.walk_option.new.e c.args.n.now.update c.walk_option-2.new.e c.args.n.now.body c.walk_boxed_stmt.new.s (for_tree-is _) (for_tree-is _) c.in_ok-init.ensures c.in_ok-test.ensures c.in_ok-update.ensures c.in_ok-body.ensures
 
 pub statements::walk_init-returns-in-None : goal.statements::walk_init-returns-in-None
-statements::walk_init-returns-in-None g t c = unvisited_at _ (option_init_tree expr_tree) (ap (option_init_tree expr_tree) c.in-None.is) refl
+statements::walk_init-returns-in-None g t c = walked (unvisited_at _ (option_init_tree expr_tree) (ap (option_init_tree expr_tree) c.in-None.is) refl)
 
 pub statements::walk_init-returns-in_ok-made-in-Some : goal.statements::walk_init-returns-in_ok-made-in-Some
-statements::walk_init-returns-in_ok-made-in-Some g t c = walks_at (ap (option_init_tree expr_tree) c.in-Some.is) refl c.in_ok-made-in-Some.ensures
+statements::walk_init-returns-in_ok-made-in-Some g t c = head_at (ap (option_init_tree expr_tree) c.in-Some.is) refl c.in_ok-made-in-Some.ensures
+
+pub statements::walk_var_or_expr-returns-then-not-enters_head : goal.statements::walk_var_or_expr-returns-then-not-enters_head
+statements::walk_var_or_expr-returns-then-not-enters_head g t c = init_shut _ _ c.in-VarDecl.is (c.if-not-enters_head.ensures refl)
 
 pub statements::walk_var_or_expr-returns-in_ok-made-in-VarDecl : goal.statements::walk_var_or_expr-returns-in_ok-made-in-VarDecl
 statements::walk_var_or_expr-returns-in_ok-made-in-VarDecl g t c = init_var _ _ c.in-VarDecl.n c.in-VarDecl.n c.walk_var.new.n c.in-VarDecl.is refl refl c.in_ok-made-in-VarDecl.ensures

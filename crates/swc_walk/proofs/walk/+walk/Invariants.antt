@@ -85,7 +85,13 @@ abbrev pub decreases-expressions::walk_arrow_body : goal.decreases-expressions::
 decreases-expressions::walk_arrow_body g l = 16 * goal.size-expressions::walk_arrow_body g l
 
 abbrev pub decreases-statements::walk_body : goal.decreases-statements::walk_body
-decreases-statements::walk_body g l = 16 * goal.size-statements::walk_body g l + 5
+decreases-statements::walk_body g l = 16 * goal.size-statements::walk_body g l + 6
+
+abbrev pub decreases-statements::walk_inner_block : goal.decreases-statements::walk_inner_block
+decreases-statements::walk_inner_block g l = 16 * goal.size-statements::walk_inner_block g l + 6
+
+abbrev pub decreases-statements::walk_part : goal.decreases-statements::walk_part
+decreases-statements::walk_part g l = 16 * goal.size-statements::walk_part g l + 5
 
 abbrev pub decreases-statements::walk_block : goal.decreases-statements::walk_block
 decreases-statements::walk_block g l = 16 * goal.size-statements::walk_block g l + 5
@@ -109,10 +115,10 @@ abbrev pub decreases-statements::walk_alt : goal.decreases-statements::walk_alt
 decreases-statements::walk_alt g l = 16 * goal.size-statements::walk_alt g l + 3
 
 abbrev pub decreases-statements::walk_handler : goal.decreases-statements::walk_handler
-decreases-statements::walk_handler g l = 16 * goal.size-statements::walk_handler g l + 6
+decreases-statements::walk_handler g l = 16 * goal.size-statements::walk_handler g l + 7
 
 abbrev pub decreases-statements::walk_finalizer : goal.decreases-statements::walk_finalizer
-decreases-statements::walk_finalizer g l = 16 * goal.size-statements::walk_finalizer g l + 6
+decreases-statements::walk_finalizer g l = 16 * goal.size-statements::walk_finalizer g l + 7
 
 abbrev pub decreases-statements::walk_if : goal.decreases-statements::walk_if
 decreases-statements::walk_if g l = 16 * goal.size-statements::walk_if g l
