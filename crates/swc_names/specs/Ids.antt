@@ -7,6 +7,7 @@ use Rattle.swc_ast.specs.Tree.{Name}
 use Rattle.swc_ast.specs.Parts.{ident_name}
 use Rattle.swc_ast.specs.declared.names.Ident.{Ident}
 use Rattle.swc_ast.specs.declared.names.SyntaxContext.{SyntaxContext}
+use Rattle.swc_names.specs.declared.keys.Key.{Key}
 
 -- a name by itself, as values have it
 abbrev pub Id : Type 0
@@ -28,3 +29,7 @@ idents = map (λ n. ident_name n.now)
 abbrev pub optional : Option (Bor Ident) → List Name
 optional None = []
 optional (Some n) = ident_name n.now ∷ []
+
+-- a name whose text is lent
+abbrev pub key_name : Key → Name
+key_name k = record { text = k.text.now; context = k.context.0 }

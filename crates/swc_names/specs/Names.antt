@@ -89,6 +89,14 @@ opened_names c l cs = front_names c l ++ (if enters c l then names_among c (behi
 abbrev pub mentioned : Forest → List Name
 mentioned = names_among choice.Every []
 
+-- the same of one tree
+abbrev pub mentioned_in : Tree → List Name
+mentioned_in = names_in choice.Every
+
+-- the same of trees in a row, where some names stand behind the first of them
+abbrev pub mentioned_behind : List Name → Forest → List Name
+mentioned_behind = names_among choice.Every
+
 -- the names that trees bind, by declarations, parameters, functions, imports and handlers
 abbrev pub bound : Forest → List Name
 bound = names_among choice.Bound []

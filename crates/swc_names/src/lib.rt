@@ -3,6 +3,7 @@
 
 mod gather;
 mod ids;
+mod keys;
 mod numbers;
 
 pub use ids::{collect_decls, extract_var_ids, find_pat_ids};

@@ -1,13 +1,14 @@
 //! Names by number.
 ghost use Rattle.std.specs.Prelude.{◌≡◌, IfOk, IfErr, IfSome, Some, length, position, slice_get, option_map};
 ghost use Rattle.swc_ast.specs.Modules.{item_tree};
-ghost use Rattle.swc_ast.specs.Parts.{list_trees};
+ghost use Rattle.swc_ast.specs.Parts.{ident_name, list_trees};
 ghost use Rattle.swc_ast.specs.Tree.{same_name};
 ghost use Rattle.swc_ast.specs.declared.errors.PassError.TheVariants.{OutOfMemory};
 ghost use Rattle.swc_names.specs.Ids.{id_name, ids, idents};
 ghost use Rattle.swc_names.specs.Names.{mentioned, distinct};
 
 use crate::gather::{Choice, gather};
+use crate::keys::Key;
 use indexmap::IndexSet;
 use std::alloc::{AllocError, Global};
 use std::marker::Model;
@@ -47,6 +48,14 @@ impl Names {
         ensures named { IfSome result (λ n. slice_get self.now n ≡ Some (id_name id.now)) }
     {
         self.set.get_index_of(id)
+    }
+
+    /// The number of an identifier's name, if it stands in the tree.
+    pub fn number_of(&self, name: &Ident) -> Option<usize>
+        ensures number { result ≡ position (same_name (ident_name name.now)) self.now }
+        ensures named { IfSome result (λ n. slice_get self.now n ≡ Some (ident_name name.now)) }
+    {
+        self.set.get_index_of(Key::of(name))
     }
 
     /// The name that has a number, if one has.

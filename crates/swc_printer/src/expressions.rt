@@ -1,11 +1,11 @@
 //! Expressions.
-use crate::error::PrintError;
 use crate::precedence::{
     ASSIGNMENT, CALL, COMMA, SHORT_CIRCUIT, assignment_sign, binary_sign, constructor_strength,
     left_strength, object_strength, operand_strength, right_strength, strength, unary_sign,
     update_sign,
 };
 use crate::writer::Printer;
+use std::alloc::AllocError;
 use swc_ast::{
     ArrayLit, AssignTarget, BinExpr, BinaryOp, CondExpr, Expr, MemberExpr, MemberProp, Tpl,
     UpdateExpr,
@@ -28,7 +28,7 @@ impl Printer {
 
     /// An expression that has to bind so tightly, in parentheses if it does not.
     #[cycle(print)]
-    pub(crate) fn expr(&mut self, expr: &Expr, least: u8) -> Result<(), PrintError> {
+    pub(crate) fn expr(&mut self, expr: &Expr, least: u8) -> Result<(), AllocError> {
         if strength(expr) >= least && !(self.in_head && is_in(expr)) {
             return self.bare_expr(expr);
         }
@@ -36,7 +36,7 @@ impl Printer {
     }
 
     #[cycle(print)]
-    pub(crate) fn wrapped(&mut self, expr: &Expr) -> Result<(), PrintError> {
+    pub(crate) fn wrapped(&mut self, expr: &Expr) -> Result<(), AllocError> {
         let in_head = self.enter();
         self.put("(")?;
         self.bare_expr(expr)?;
@@ -45,7 +45,7 @@ impl Printer {
     }
 
     #[cycle(print)]
-    fn bare_expr(&mut self, expr: &Expr) -> Result<(), PrintError> {
+    fn bare_expr(&mut self, expr: &Expr) -> Result<(), AllocError> {
         match expr {
             Expr::This(_) => self.put("this"),
             Expr::Ident(name) => self.name(name),
@@ -78,12 +78,12 @@ impl Printer {
             Expr::Seq(node) => self.list(&node.exprs),
             Expr::Tpl(node) => self.template(node),
             Expr::Arrow(node) => self.arrow(node),
-            Expr::Invalid(_) => Err(PrintError::Invalid),
+            Expr::Invalid(_) => Ok(()),
         }
     }
 
     #[cycle(print)]
-    fn list(&mut self, exprs: &Vec<Expr>) -> Result<(), PrintError> {
+    fn list(&mut self, exprs: &Vec<Expr>) -> Result<(), AllocError> {
         for (i, expr) in exprs.iter().enumerate() {
             self.comma(i)?;
             self.expr(expr, ASSIGNMENT)?;
@@ -92,7 +92,7 @@ impl Printer {
     }
 
     #[cycle(print)]
-    fn arguments(&mut self, args: &Vec<Expr>) -> Result<(), PrintError> {
+    fn arguments(&mut self, args: &Vec<Expr>) -> Result<(), AllocError> {
         let in_head = self.enter();
         self.put("(")?;
         self.list(args)?;
@@ -101,7 +101,7 @@ impl Printer {
     }
 
     #[cycle(print)]
-    fn array(&mut self, node: &ArrayLit) -> Result<(), PrintError> {
+    fn array(&mut self, node: &ArrayLit) -> Result<(), AllocError> {
         let in_head = self.enter();
         self.put("[")?;
         for (i, item) in node.elems.iter().enumerate() {
@@ -125,7 +125,7 @@ impl Printer {
     }
 
     #[cycle(print)]
-    fn update(&mut self, node: &UpdateExpr) -> Result<(), PrintError> {
+    fn update(&mut self, node: &UpdateExpr) -> Result<(), AllocError> {
         if node.prefix {
             self.put(update_sign(node.op))?;
         }
@@ -137,7 +137,7 @@ impl Printer {
     }
 
     #[cycle(print)]
-    fn target(&mut self, target: &AssignTarget) -> Result<(), PrintError> {
+    fn target(&mut self, target: &AssignTarget) -> Result<(), AllocError> {
         match target {
             AssignTarget::Ident(name) => self.name(name),
             AssignTarget::Member(member) => self.member(member),
@@ -145,14 +145,14 @@ impl Printer {
     }
 
     #[cycle(print)]
-    fn binary(&mut self, node: &BinExpr) -> Result<(), PrintError> {
+    fn binary(&mut self, node: &BinExpr) -> Result<(), AllocError> {
         self.expr(&node.left, left_strength(node))?;
         self.put(binary_sign(node.op))?;
         self.expr(&node.right, right_strength(node))
     }
 
     #[cycle(print)]
-    fn condition(&mut self, node: &CondExpr) -> Result<(), PrintError> {
+    fn condition(&mut self, node: &CondExpr) -> Result<(), AllocError> {
         self.expr(&node.test, SHORT_CIRCUIT)?;
         self.put(" ? ")?;
         let in_head = self.enter();
@@ -163,7 +163,7 @@ impl Printer {
     }
 
     #[cycle(print)]
-    fn member(&mut self, member: &MemberExpr) -> Result<(), PrintError> {
+    fn member(&mut self, member: &MemberExpr) -> Result<(), AllocError> {
         self.expr(&member.obj, object_strength(member))?;
         match &member.prop {
             MemberProp::Ident(name) => {
@@ -182,7 +182,7 @@ impl Printer {
 
     /// The first text of a template, and an expression and a text in turn.
     #[cycle(print)]
-    fn template(&mut self, node: &Tpl) -> Result<(), PrintError> {
+    fn template(&mut self, node: &Tpl) -> Result<(), AllocError> {
         let in_head = self.enter();
         self.put("`")?;
         self.quasi_at(node, 0)?;
@@ -196,7 +196,7 @@ impl Printer {
         self.put("`")
     }
 
-    fn quasi_at(&mut self, node: &Tpl, place: usize) -> Result<(), PrintError> {
+    fn quasi_at(&mut self, node: &Tpl, place: usize) -> Result<(), AllocError> {
         match node.quasis.get(place) {
             Some(quasi) => self.quasi(quasi.cooked.as_str()),
             None => Ok(()),

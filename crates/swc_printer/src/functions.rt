@@ -1,7 +1,7 @@
 //! Functions, arrows, and what stands in objects.
-use crate::error::PrintError;
 use crate::precedence::{ASSIGNMENT, COMMA, First, first_of};
 use crate::writer::Printer;
+use std::alloc::AllocError;
 use swc_ast::{
     ArrowExpr, BlockStmtOrExpr, Expr, FnExpr, Function, ObjectLit, Pat, Prop, PropName,
     PropOrSpread,
@@ -9,7 +9,7 @@ use swc_ast::{
 
 impl Printer {
     #[cycle(print)]
-    pub(crate) fn function_expr(&mut self, node: &FnExpr) -> Result<(), PrintError> {
+    pub(crate) fn function_expr(&mut self, node: &FnExpr) -> Result<(), AllocError> {
         self.put("function ")?;
         if let Some(name) = &node.ident {
             self.name(name)?;
@@ -19,7 +19,7 @@ impl Printer {
 
     /// The parameters and the body.
     #[cycle(print)]
-    pub(crate) fn function(&mut self, function: &Function) -> Result<(), PrintError> {
+    pub(crate) fn function(&mut self, function: &Function) -> Result<(), AllocError> {
         let in_head = self.enter();
         self.params(&function.params)?;
         self.put(" ")?;
@@ -29,7 +29,7 @@ impl Printer {
     }
 
     #[cycle(print)]
-    fn params(&mut self, params: &Vec<Pat>) -> Result<(), PrintError> {
+    fn params(&mut self, params: &Vec<Pat>) -> Result<(), AllocError> {
         self.put("(")?;
         for (i, param) in params.iter().enumerate() {
             self.comma(i)?;
@@ -46,7 +46,7 @@ impl Printer {
     }
 
     #[cycle(print)]
-    pub(crate) fn arrow(&mut self, arrow: &ArrowExpr) -> Result<(), PrintError> {
+    pub(crate) fn arrow(&mut self, arrow: &ArrowExpr) -> Result<(), AllocError> {
         let in_head = self.enter();
         self.params(&arrow.params)?;
         self.put(" => ")?;
@@ -68,7 +68,7 @@ impl Printer {
     }
 
     #[cycle(print)]
-    pub(crate) fn object(&mut self, node: &ObjectLit) -> Result<(), PrintError> {
+    pub(crate) fn object(&mut self, node: &ObjectLit) -> Result<(), AllocError> {
         let in_head = self.enter();
         self.put("{")?;
         for (i, prop) in node.props.iter().enumerate() {
@@ -80,7 +80,7 @@ impl Printer {
     }
 
     #[cycle(print)]
-    fn prop(&mut self, prop: &PropOrSpread) -> Result<(), PrintError> {
+    fn prop(&mut self, prop: &PropOrSpread) -> Result<(), AllocError> {
         match prop {
             PropOrSpread::Spread(node) => {
                 self.put("...")?;
@@ -100,7 +100,7 @@ impl Printer {
     }
 
     #[cycle(print)]
-    fn key(&mut self, key: &PropName) -> Result<(), PrintError> {
+    fn key(&mut self, key: &PropName) -> Result<(), AllocError> {
         match key {
             PropName::Ident(name) => self.put(name.sym.as_str()),
             PropName::Str(text) => self.text(text.value.as_str()),
@@ -115,7 +115,7 @@ impl Printer {
 
     /// An expression where what begins so would be read as something else.
     #[cycle(print)]
-    pub(crate) fn expr_alone(&mut self, expr: &Expr, least: u8) -> Result<(), PrintError> {
+    pub(crate) fn expr_alone(&mut self, expr: &Expr, least: u8) -> Result<(), AllocError> {
         let first = first_of(expr);
         if first == First::Function || (first == First::Brace && least == COMMA) {
             self.wrapped(expr)

@@ -1,6 +1,6 @@
 //! Literals and names.
-use crate::error::PrintError;
 use crate::writer::Printer;
+use std::alloc::AllocError;
 use std::fmt::Write;
 use swc_ast::{Ident, Lit};
 
@@ -11,7 +11,7 @@ fn is_plain(b: u8) -> bool {
 
 impl Printer {
     /// A text in single quotes.
-    pub(crate) fn text(&mut self, text: &str) -> Result<(), PrintError> {
+    pub(crate) fn text(&mut self, text: &str) -> Result<(), AllocError> {
         self.put("'")?;
         if text.as_bytes().iter().all(|b| is_plain(*b)) {
             self.put(text)?;
@@ -24,7 +24,7 @@ impl Printer {
     }
 
     /// A text of a template: a dollar before a brace would begin an expression.
-    pub(crate) fn quasi(&mut self, text: &str) -> Result<(), PrintError> {
+    pub(crate) fn quasi(&mut self, text: &str) -> Result<(), AllocError> {
         if text.as_bytes().iter().all(|b| is_plain(*b)) {
             return self.put(text);
         }
@@ -45,7 +45,7 @@ impl Printer {
     }
 
     /// A character between such quotes.
-    fn character(&mut self, c: char, quote: char) -> Result<(), PrintError> {
+    fn character(&mut self, c: char, quote: char) -> Result<(), AllocError> {
         match c {
             '\\' => self.put("\\\\"),
             '\n' => self.put("\\n"),
@@ -67,16 +67,16 @@ impl Printer {
         }
     }
 
-    pub(crate) fn number(&mut self, value: i64) -> Result<(), PrintError> {
+    pub(crate) fn number(&mut self, value: i64) -> Result<(), AllocError> {
         write!(self.out, "{value}")?;
         Ok(())
     }
 
-    pub(crate) fn name(&mut self, name: &Ident) -> Result<(), PrintError> {
+    pub(crate) fn name(&mut self, name: &Ident) -> Result<(), AllocError> {
         self.put(name.sym.as_str())
     }
 
-    pub(crate) fn literal(&mut self, literal: &Lit) -> Result<(), PrintError> {
+    pub(crate) fn literal(&mut self, literal: &Lit) -> Result<(), AllocError> {
         match literal {
             Lit::Str(text) => self.text(text.value.as_str()),
             Lit::Bool(truth) => self.put(if truth.value { "true" } else { "false" }),

@@ -1,13 +1,13 @@
 //! Modules and scripts: each item on a line of its own.
-use crate::error::PrintError;
 use crate::precedence::ASSIGNMENT;
 use crate::writer::Printer;
+use std::alloc::AllocError;
 use swc_ast::{
     IdentName, ImportDecl, ImportSpecifier, Module, ModuleDecl, ModuleItem, NamedExport, Script,
 };
 
 impl Printer {
-    pub(crate) fn module(&mut self, module: &Module) -> Result<(), PrintError> {
+    pub(crate) fn module(&mut self, module: &Module) -> Result<(), AllocError> {
         for item in &module.body {
             match item {
                 ModuleItem::ModuleDecl(decl) => self.module_decl(decl)?,
@@ -18,7 +18,7 @@ impl Printer {
         Ok(())
     }
 
-    pub(crate) fn script(&mut self, script: &Script) -> Result<(), PrintError> {
+    pub(crate) fn script(&mut self, script: &Script) -> Result<(), AllocError> {
         for stmt in &script.body {
             self.stmt(stmt)?;
             self.put("\n")?;
@@ -26,7 +26,7 @@ impl Printer {
         Ok(())
     }
 
-    fn module_decl(&mut self, decl: &ModuleDecl) -> Result<(), PrintError> {
+    fn module_decl(&mut self, decl: &ModuleDecl) -> Result<(), AllocError> {
         match decl {
             ModuleDecl::Import(node) => self.import(node),
             ModuleDecl::ExportDecl(node) => {
@@ -46,7 +46,7 @@ impl Printer {
         }
     }
 
-    fn import(&mut self, node: &ImportDecl) -> Result<(), PrintError> {
+    fn import(&mut self, node: &ImportDecl) -> Result<(), AllocError> {
         self.put("import ")?;
         let mut in_braces = false;
         for (i, specifier) in node.specifiers.iter().enumerate() {
@@ -71,7 +71,7 @@ impl Printer {
         self.put(";")
     }
 
-    fn import_specifier(&mut self, specifier: &ImportSpecifier) -> Result<(), PrintError> {
+    fn import_specifier(&mut self, specifier: &ImportSpecifier) -> Result<(), AllocError> {
         match specifier {
             ImportSpecifier::Named(node) => {
                 if let Some(imported) = &node.imported {
@@ -88,7 +88,7 @@ impl Printer {
         }
     }
 
-    fn named_export(&mut self, node: &NamedExport) -> Result<(), PrintError> {
+    fn named_export(&mut self, node: &NamedExport) -> Result<(), AllocError> {
         self.put("export {")?;
         for (i, specifier) in node.specifiers.iter().enumerate() {
             self.comma(i)?;
@@ -98,7 +98,7 @@ impl Printer {
         self.put("};")
     }
 
-    fn exported_as(&mut self, exported: &Option<IdentName>) -> Result<(), PrintError> {
+    fn exported_as(&mut self, exported: &Option<IdentName>) -> Result<(), AllocError> {
         if let Some(exported) = exported {
             self.put(" as ")?;
             self.put(exported.sym.as_str())?;

@@ -1,7 +1,7 @@
 //! Statements and declarations.
-use crate::error::PrintError;
 use crate::precedence::{ASSIGNMENT, COMMA, declaration_word};
 use crate::writer::Printer;
+use std::alloc::AllocError;
 use swc_ast::{
     BlockStmt, Decl, Expr, ForStmt, IdentName, IfStmt, Stmt, SwitchCase, SwitchStmt, TryStmt,
     VarDecl, VarDeclOrExpr, WhileStmt,
@@ -23,7 +23,7 @@ fn takes_else(stmt: &Stmt) -> bool {
 
 impl Printer {
     #[cycle(print)]
-    pub(crate) fn stmt(&mut self, stmt: &Stmt) -> Result<(), PrintError> {
+    pub(crate) fn stmt(&mut self, stmt: &Stmt) -> Result<(), AllocError> {
         match stmt {
             Stmt::Block(node) => self.block(node),
             Stmt::Empty(_) => self.put(";"),
@@ -58,7 +58,7 @@ impl Printer {
 
     /// `{ a(); b(); }`
     #[cycle(print)]
-    pub(crate) fn block(&mut self, block: &BlockStmt) -> Result<(), PrintError> {
+    pub(crate) fn block(&mut self, block: &BlockStmt) -> Result<(), AllocError> {
         if block.stmts.is_empty() {
             return self.put("{}");
         }
@@ -69,7 +69,7 @@ impl Printer {
 
     /// Statements with a space before each.
     #[cycle(print)]
-    fn stmts(&mut self, stmts: &Vec<Stmt>) -> Result<(), PrintError> {
+    fn stmts(&mut self, stmts: &Vec<Stmt>) -> Result<(), AllocError> {
         for stmt in stmts {
             self.put(" ")?;
             self.stmt(stmt)?;
@@ -78,13 +78,13 @@ impl Printer {
     }
 
     #[cycle(print)]
-    fn word_and_expr(&mut self, word: &str, expr: &Expr) -> Result<(), PrintError> {
+    fn word_and_expr(&mut self, word: &str, expr: &Expr) -> Result<(), AllocError> {
         self.put(word)?;
         self.expr(expr, COMMA)?;
         self.put(";")
     }
 
-    fn jump(&mut self, word: &str, label: &Option<IdentName>) -> Result<(), PrintError> {
+    fn jump(&mut self, word: &str, label: &Option<IdentName>) -> Result<(), AllocError> {
         self.put(word)?;
         if let Some(label) = label {
             self.put(" ")?;
@@ -95,14 +95,14 @@ impl Printer {
 
     /// A word, an expression in parentheses, and the space behind them.
     #[cycle(print)]
-    fn head(&mut self, word: &str, expr: &Expr) -> Result<(), PrintError> {
+    fn head(&mut self, word: &str, expr: &Expr) -> Result<(), AllocError> {
         self.put(word)?;
         self.expr(expr, COMMA)?;
         self.put(") ")
     }
 
     #[cycle(print)]
-    fn if_stmt(&mut self, node: &IfStmt) -> Result<(), PrintError> {
+    fn if_stmt(&mut self, node: &IfStmt) -> Result<(), AllocError> {
         self.head("if (", &node.test)?;
         let Some(alt) = &node.alt else {
             return self.stmt(&node.cons);
@@ -119,7 +119,7 @@ impl Printer {
     }
 
     #[cycle(print)]
-    fn switch(&mut self, node: &SwitchStmt) -> Result<(), PrintError> {
+    fn switch(&mut self, node: &SwitchStmt) -> Result<(), AllocError> {
         self.head("switch (", &node.discriminant)?;
         if node.cases.is_empty() {
             return self.put("{}");
@@ -132,7 +132,7 @@ impl Printer {
     }
 
     #[cycle(print)]
-    fn case(&mut self, case: &SwitchCase) -> Result<(), PrintError> {
+    fn case(&mut self, case: &SwitchCase) -> Result<(), AllocError> {
         match &case.test {
             Some(test) => {
                 self.put(" case ")?;
@@ -145,7 +145,7 @@ impl Printer {
     }
 
     #[cycle(print)]
-    fn try_stmt(&mut self, node: &TryStmt) -> Result<(), PrintError> {
+    fn try_stmt(&mut self, node: &TryStmt) -> Result<(), AllocError> {
         self.put("try ")?;
         self.block(&node.block)?;
         if let Some(handler) = &node.handler {
@@ -165,7 +165,7 @@ impl Printer {
     }
 
     #[cycle(print)]
-    fn do_while(&mut self, node: &WhileStmt) -> Result<(), PrintError> {
+    fn do_while(&mut self, node: &WhileStmt) -> Result<(), AllocError> {
         self.put("do ")?;
         self.stmt(&node.body)?;
         self.put(" while (")?;
@@ -174,7 +174,7 @@ impl Printer {
     }
 
     #[cycle(print)]
-    fn for_stmt(&mut self, node: &ForStmt) -> Result<(), PrintError> {
+    fn for_stmt(&mut self, node: &ForStmt) -> Result<(), AllocError> {
         self.put("for (")?;
         if let Some(init) = &node.init {
             self.in_head = true;
@@ -200,7 +200,7 @@ impl Printer {
 
     /// A declaration without its semicolon.
     #[cycle(print)]
-    fn declarators(&mut self, decl: &VarDecl) -> Result<(), PrintError> {
+    fn declarators(&mut self, decl: &VarDecl) -> Result<(), AllocError> {
         self.put(declaration_word(decl.kind))?;
         for (i, declarator) in decl.decls.iter().enumerate() {
             self.comma(i)?;
@@ -214,7 +214,7 @@ impl Printer {
     }
 
     #[cycle(print)]
-    pub(crate) fn decl(&mut self, decl: &Decl) -> Result<(), PrintError> {
+    pub(crate) fn decl(&mut self, decl: &Decl) -> Result<(), AllocError> {
         match decl {
             Decl::Fn(node) => {
                 self.put("function ")?;

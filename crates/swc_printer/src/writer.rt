@@ -1,9 +1,6 @@
 //! The public calls, and what they write with.
-use crate::capture::{check_expr, check_module, check_script};
-use crate::error::PrintError;
-use crate::precedence::COMMA;
-use std::alloc::Global;
-use swc_ast::{Expr, Module, Script};
+use std::alloc::{AllocError, Global};
+use swc_ast::{Module, Script};
 
 /// What writes a tree: the text so far, and whether it stands in the first part of a `for`.
 #[derive(Drop)]
@@ -21,13 +18,13 @@ impl Printer {
         }
     }
 
-    pub(crate) fn put(&mut self, text: &str) -> Result<(), PrintError> {
+    pub(crate) fn put(&mut self, text: &str) -> Result<(), AllocError> {
         self.out.push_str(text)?;
         Ok(())
     }
 
     /// What stands before an item of a list.
-    pub(crate) fn comma(&mut self, place: usize) -> Result<(), PrintError> {
+    pub(crate) fn comma(&mut self, place: usize) -> Result<(), AllocError> {
         if place > 0 {
             self.put(", ")?;
         }
@@ -35,27 +32,17 @@ impl Printer {
     }
 }
 
-/// The text of a module, each item on a line of its own. `Captured` tells the first name in the order of the text
-/// that another scope than its own would bind, `Invalid` that an expression is none.
-pub fn print(alloc: Global, module: &Module) -> Result<String, PrintError> {
-    check_module(alloc, module)?;
+/// The text of a module, each item on a line of its own. An expression that is invalid has no text, and nothing is
+/// written for it.
+pub fn print(alloc: Global, module: &Module) -> Result<String, AllocError> {
     let mut printer = Printer::new(alloc);
     printer.module(module)?;
     Ok(printer.out)
 }
 
 /// The text of a script, as `print` of a module.
-pub fn print_script(alloc: Global, script: &Script) -> Result<String, PrintError> {
-    check_script(alloc, script)?;
+pub fn print_script(alloc: Global, script: &Script) -> Result<String, AllocError> {
     let mut printer = Printer::new(alloc);
     printer.script(script)?;
-    Ok(printer.out)
-}
-
-/// The text of an expression that stands alone, without a line feed; its errors are those of `print`.
-pub fn print_expr(alloc: Global, expr: &Expr) -> Result<String, PrintError> {
-    check_expr(alloc, expr)?;
-    let mut printer = Printer::new(alloc);
-    printer.expr(expr, COMMA)?;
     Ok(printer.out)
 }

@@ -19,7 +19,7 @@ use swc_visit::{Children, Kind, Node, Opened};
 
 /// What of a list of nodes gives names to the scope.
 #[derive(Clone, Copy)]
-pub(crate) enum Part {
+pub enum Part {
     /// `var` declarations, outside functions
     Vars,
     /// what stands directly in the list: `let`, `const` and functions
@@ -40,7 +40,7 @@ pub(crate) enum Part {
 /// Adds the names that a list of nodes gives. Fails where memory is refused.
 #[cycle(names)]
 #[tactic(auto, using(swc_visit::proofs::Caps::rest_falls, crate::proofs::Sizes::rest_within, crate::proofs::Gathered::goes_on, crate::proofs::Gathered::ends))]
-pub(crate) fn add_names<'a>(
+pub fn add_names<'a>(
     names: &mut Vec<Name<'a>>,
     children: Children<'a>,
     part: Part,
@@ -221,7 +221,7 @@ fn is_case_body(kind: Kind<'_>) -> bool
 }
 
 /// Adds what a body declares.
-pub(crate) fn add_body<'a>(names: &mut Vec<Name<'a>>, body: Children<'a>) -> Result<(), AllocError>
+pub fn add_body<'a>(names: &mut Vec<Name<'a>>, body: Children<'a>) -> Result<(), AllocError>
     ensures { OnOk result (tree_names_of names.new.items ≡ tree_names_of names.old.items ++ declared_names (children_forest body.entry)) }
 {
     add_names(names, body, Part::Vars)?;
@@ -231,7 +231,7 @@ pub(crate) fn add_body<'a>(names: &mut Vec<Name<'a>>, body: Children<'a>) -> Res
 /// Adds the names that a node binds in a scope of its own, those of a function's parameters and
 /// body aside.
 #[tactic(auto, using(crate::proofs::Gathered::nothing_more))]
-pub(crate) fn add_own_names<'a>(
+pub fn add_own_names<'a>(
     names: &mut Vec<Name<'a>>,
     kind: Kind<'a>,
     children: Children<'a>,

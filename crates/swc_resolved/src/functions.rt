@@ -10,7 +10,7 @@ use swc_visit::{Children, Kind};
 
 /// What a function has.
 #[derive(Clone, Copy)]
-pub(crate) enum Half {
+pub enum Half {
     Params,
     Body,
 }
@@ -29,7 +29,7 @@ pub(crate) fn is_function(kind: Kind<'_>) -> bool
 
 /// The parameters or the statements among a function's children.
 #[tactic(auto, using(swc_visit::proofs::Caps::rest_falls, crate::proofs::Halves::no_half))]
-pub(crate) fn half_of<'a>(children: Children<'a>, half: Half) -> Children<'a>
+pub fn half_of<'a>(children: Children<'a>, half: Half) -> Children<'a>
     ensures { children_forest result ≡ half_among half (children_forest children.entry) }
 {
     let mut left = children;
@@ -60,7 +60,7 @@ fn is_half(kind: Kind<'_>, half: Half) -> bool
 
 /// Whether a parameter has a default.
 #[tactic(auto, using(swc_visit::proofs::Caps::rest_falls, crate::proofs::Halves::default_here))]
-pub(crate) fn has_default(params: Children<'_>) -> bool
+pub fn has_default(params: Children<'_>) -> bool
     ensures { result ≡ has_default_among (children_forest params.entry) }
 {
     let mut left = params;

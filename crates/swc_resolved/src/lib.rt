@@ -13,4 +13,7 @@ mod resolved;
 mod scopes;
 
 pub use core_trees::{is_core, is_script_core};
+pub use declared::{Part, add_body, add_names, add_own_names};
+pub use functions::{Half, half_of, has_default};
+pub use names::{Name, NameSet};
 pub use resolved::{is_resolved, is_script_resolved};

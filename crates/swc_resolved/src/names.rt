@@ -15,14 +15,14 @@ use swc_ast::{Ident, Mark, SyntaxContext};
 
 /// A name: its text, and the context that tells names of one text apart.
 #[derive(Clone, Copy, PartialEq, Eq, Hash)]
-pub(crate) struct Name<'a> {
-    pub(crate) text: &'a str,
-    context: SyntaxContext,
+pub struct Name<'a> {
+    pub text: &'a str,
+    pub context: SyntaxContext,
 }
 
 impl<'a> Name<'a> {
     /// The name of an identifier.
-    pub(crate) fn of(ident: &'a Ident) -> Name<'a>
+    pub fn of(ident: &'a Ident) -> Name<'a>
         ensures { name result ≡ ident_name ident.now }
     {
         Name {
@@ -53,13 +53,13 @@ impl<'a> Name<'a> {
 
 /// A set of names.
 #[derive(Drop)]
-pub(crate) struct NameSet<'a> {
+pub struct NameSet<'a> {
     names: HashSet<Name<'a>>,
 }
 
 impl<'a> NameSet<'a> {
     /// The set of no names.
-    pub(crate) fn new(alloc: Global) -> NameSet<'a>
+    pub fn new(alloc: Global) -> NameSet<'a>
         ensures { members result ≡ [] }
     {
         NameSet {
@@ -68,14 +68,14 @@ impl<'a> NameSet<'a> {
     }
 
     /// Whether a name is in the set.
-    pub(crate) fn contains(&self, x: Name<'a>) -> bool
+    pub fn contains(&self, x: Name<'a>) -> bool
         ensures { result ≡ has_name (name x.entry) (members self.now) }
     {
         self.names.contains(&x)
     }
 
     /// Puts a name in, and says whether it is new. Fails where memory is refused.
-    pub(crate) fn insert(&mut self, x: Name<'a>) -> Result<bool, AllocError>
+    pub fn insert(&mut self, x: Name<'a>) -> Result<bool, AllocError>
         ensures added { IfOk result (λ b. b ≡ not (has_name (name x.entry) (members self.old))) }
         ensures names { OnOk result ((y : tree.Name) → has_name y (members self.new) ≡ (has_name y (members self.old) || same_name y (name x.entry))) }
     {

@@ -1,0 +1,37 @@
+-- How deep the walk is, and what of the nodes in a row is still to be told.
+use Rattle.std.proofs.Common.{◌≡◌, ◌≤◌, ◌+◌, ◌*◌}
+use Rattle.swc_visit.specs.Nodes.{node_tree, children_forest}
+use Rattle.swc_visit.proofs.Caps.{tree_size, forest_size}
+use Rattle.swc_captures.specs.Captured.{captured_in, first_of}
+use Rattle.swc_captures.specs.Views.{inside}
+use Rattle.swc_captures.proofs.captures.+captures.Given as goal
+
+abbrev pub decreases-first_in : goal.decreases-first_in
+decreases-first_in l = tree_size (node_tree l.n) * 8
+
+abbrev pub decreases-first_below : goal.decreases-first_below
+decreases-first_below l = forest_size (children_forest l.children) * 8 + 7
+
+abbrev pub decreases-first_inside : goal.decreases-first_inside
+decreases-first_inside l = forest_size (children_forest l.children) * 8 + 6
+
+abbrev pub decreases-first_in_function : goal.decreases-first_in_function
+decreases-first_in_function l = forest_size (children_forest l.children) * 8 + 5
+
+abbrev pub decreases-first_in_one_scope : goal.decreases-first_in_one_scope
+decreases-first_in_one_scope l = forest_size (children_forest l.children) * 8 + 4
+
+abbrev pub decreases-first_beside_default : goal.decreases-first_beside_default
+decreases-first_beside_default l = forest_size (children_forest l.children) * 8 + 4
+
+abbrev pub decreases-first_round_body : goal.decreases-first_round_body
+decreases-first_round_body l = forest_size (children_forest l.children) * 8 + 3
+
+abbrev pub decreases-first_among : goal.decreases-first_among
+decreases-first_among l = forest_size (children_forest l.children) * 8 + 2
+
+abbrev pub invariant-first_among-loop-child : goal.invariant-first_among-loop-child
+invariant-first_among-loop-child l = (first_of (captured_in (inside l.around) (children_forest l.left)) ≡ first_of (captured_in (inside l.places) (children_forest l.children))) × (forest_size (children_forest l.left) ≤ forest_size (children_forest l.children))
+
+abbrev pub decreases-first_among-loop-child : goal.decreases-first_among-loop-child
+decreases-first_among-loop-child l = forest_size (children_forest l.left)

@@ -1,0 +1,231 @@
+//! The first captured name of a tree, in the order of the text.
+ghost use Rattle.std.specs.Prelude.{◌≡◌, [], IfOk};
+ghost use Rattle.swc_ast.specs.Modules.{module_tree, script_tree};
+ghost use Rattle.swc_captures.specs.Captured.{spelled as label_spelled, if_captured, captured, captured_in, inside as label_inside, within, of_function, round_params, round_body, with_both, with_params, with_body, first_of};
+ghost use Rattle.swc_captures.specs.Views.{told, scopes, inside};
+ghost use Rattle.swc_visit.specs.Kinds.{kind_label};
+ghost use Rattle.swc_visit.specs.Nodes.{node_tree, children_forest};
+
+use crate::inside::{Reach, Round};
+use crate::scope::{Declared, is_captured, with};
+use std::alloc::{AllocError, Global};
+use swc_ast::{Ident, Module, Script};
+use swc_resolved::{Half, Name, Part, add_body, add_names, add_own_names, half_of, has_default};
+use swc_visit::{Children, Kind, Node};
+
+/// The first name of a module, in the order of the text, that its text would not stand for: the
+/// innermost scope that binds a name of this text doesn't bind the name itself. Where one scope
+/// binds two names of one text, neither is captured there. The time is the size of the module, and
+/// the number of names times how deep scopes nest round them. Fails where memory is refused.
+pub fn first_captured(alloc: Global, m: &Module) -> Result<Option<&Ident>, AllocError>
+    ensures { IfOk result (λ o. told o ≡ first_of (captured [] (module_tree m.now))) }
+{
+    first_in(Node::Module(m), &[], alloc)
+}
+
+/// The same of a script.
+pub fn first_captured_of_script(alloc: Global, s: &Script) -> Result<Option<&Ident>, AllocError>
+    ensures { IfOk result (λ o. told o ≡ first_of (captured [] (script_tree s.now))) }
+{
+    first_in(Node::Script(s), &[], alloc)
+}
+
+/// The first captured name of a node.
+#[cycle(captures)]
+#[tactic(auto, using(crate::proofs::First::children_fall, crate::proofs::First::found_here, crate::proofs::First::found_below))]
+fn first_in<'a>(
+    n: Node<'a>,
+    round: &[&Declared],
+    alloc: Global,
+) -> Result<Option<&'a Ident>, AllocError>
+    ensures { IfOk result (λ o. told o ≡ first_of (captured (scopes round.now) (node_tree n.entry))) }
+{
+    let opened = n.open();
+    let own = own_captured(opened.kind, &*round);
+    if own.is_some() {
+        return Ok(own);
+    }
+    first_below(opened.kind, opened.children, &*round, alloc)
+}
+
+/// The name that a node itself spells, where it is captured.
+fn own_captured<'a>(kind: Kind<'a>, round: &[&Declared]) -> Option<&'a Ident>
+    ensures { told result ≡ first_of (if_captured (scopes round.now) (label_spelled (kind_label kind.entry))) }
+{
+    match spelled(kind) {
+        None => None,
+        Some(name) => {
+            if is_captured(round, Name::of(name)) {
+                Some(name)
+            } else {
+                None
+            }
+        }
+    }
+}
+
+/// The name that a node spells; a function expression's own name and the parameter of a `catch`
+/// are left out, since they stand in scopes that bind nothing else.
+fn spelled<'a>(kind: Kind<'a>) -> Option<&'a Ident>
+    ensures { told result ≡ label_spelled (kind_label kind.entry) }
+{
+    match kind {
+        Kind::Read(name)
+        | Kind::Shorthand(name)
+        | Kind::Param(name)
+        | Kind::TypeOfName(name)
+        | Kind::CallEval(name)
+        | Kind::Assign(_, name)
+        | Kind::Update(_, _, name)
+        | Kind::Declarator(_, name)
+        | Kind::FnDecl(name)
+        | Kind::ImportDefault(name)
+        | Kind::ImportStar(name) => Some(name),
+        Kind::ExportDefaultFn(name) => name.as_ref(),
+        Kind::ImportNamed(n) => Some(&n.local),
+        Kind::ExportSpecifier(n) => Some(&n.orig),
+        _ => None,
+    }
+}
+
+/// The first captured name among the children of a node.
+#[cycle(captures)]
+fn first_below<'a>(
+    kind: Kind<'a>,
+    children: Children<'a>,
+    round: &[&Declared],
+    alloc: Global,
+) -> Result<Option<&'a Ident>, AllocError>
+    ensures { IfOk result (λ o. told o ≡ first_of (captured_in (label_inside (kind_label kind.entry) (children_forest children.entry) (scopes round.now)) (children_forest children.entry))) }
+{
+    let reach = Reach::of(kind);
+    match reach {
+        Reach::Nothing => first_among(children, Round::each(&*round), alloc),
+        _ => {
+            let mut names = Vec::new(alloc);
+            add_own_names(&mut names, kind, children)?;
+            let own = Declared::of(&names, alloc)?;
+            let inner = with(&own, &*round, alloc)?;
+            first_inside(reach, children, &*round, &inner, alloc)
+        }
+    }
+}
+
+/// The same, given the scopes round the node and those with its own scope.
+#[cycle(captures)]
+fn first_inside<'a>(
+    reach: Reach,
+    children: Children<'a>,
+    round: &[&Declared],
+    inner: &[&Declared],
+    alloc: Global,
+) -> Result<Option<&'a Ident>, AllocError>
+    ensures { IfOk result (λ o. told o ≡ first_of (captured_in (within reach (children_forest children.entry) (scopes round.now) (scopes inner.now)) (children_forest children.entry))) }
+{
+    match reach {
+        Reach::Nothing => first_among(children, Round::each(&*round), alloc),
+        Reach::Each => first_among(children, Round::each(&*inner), alloc),
+        Reach::BehindFirst => first_among(children, Round::of(&*round, &*inner, &*inner), alloc),
+        Reach::Second => first_among(children, Round::of(&*round, &*inner, &*round), alloc),
+        Reach::Function => first_in_function(false, children, &*round, &*inner, alloc),
+        Reach::Method => first_in_function(true, children, &*round, &*inner, alloc),
+    }
+}
+
+/// The same of a function, which may have a key in front.
+#[cycle(captures)]
+fn first_in_function<'a>(
+    has_key: bool,
+    children: Children<'a>,
+    round: &[&Declared],
+    inner: &[&Declared],
+    alloc: Global,
+) -> Result<Option<&'a Ident>, AllocError>
+    ensures { IfOk result (λ o. told o ≡ first_of (captured_in (of_function has_key (scopes round.now) (round_params (children_forest children.entry) (scopes inner.now)) (round_body (children_forest children.entry) (scopes inner.now))) (children_forest children.entry))) }
+{
+    if has_default(half_of(children, Half::Params)) {
+        first_beside_default(has_key, children, &*round, &*inner, alloc)
+    } else {
+        first_in_one_scope(has_key, children, &*round, &*inner, alloc)
+    }
+}
+
+/// The same where parameters and body are one scope.
+#[cycle(captures)]
+fn first_in_one_scope<'a>(
+    has_key: bool,
+    children: Children<'a>,
+    round: &[&Declared],
+    inner: &[&Declared],
+    alloc: Global,
+) -> Result<Option<&'a Ident>, AllocError>
+    ensures { IfOk result (λ o. told o ≡ first_of (captured_in (of_function has_key (scopes round.now) (with_both (children_forest children.entry) (scopes inner.now)) (with_both (children_forest children.entry) (scopes inner.now))) (children_forest children.entry))) }
+{
+    let mut names = Vec::new(alloc);
+    add_names(&mut names, half_of(children, Half::Params), Part::Params)?;
+    add_body(&mut names, half_of(children, Half::Body))?;
+    let own = Declared::of(&names, alloc)?;
+    let both = with(&own, &*inner, alloc)?;
+    let places = Round::of_function(has_key, &*round, &both, &both);
+    first_among(children, places, alloc)
+}
+
+/// The same where the body has a scope of its own, inside that of the parameters.
+#[cycle(captures)]
+fn first_beside_default<'a>(
+    has_key: bool,
+    children: Children<'a>,
+    round: &[&Declared],
+    inner: &[&Declared],
+    alloc: Global,
+) -> Result<Option<&'a Ident>, AllocError>
+    ensures { IfOk result (λ o. told o ≡ first_of (captured_in (of_function has_key (scopes round.now) (with_params (children_forest children.entry) (scopes inner.now)) (with_body (children_forest children.entry) (with_params (children_forest children.entry) (scopes inner.now)))) (children_forest children.entry))) }
+{
+    let mut names = Vec::new(alloc);
+    add_names(&mut names, half_of(children, Half::Params), Part::Params)?;
+    let own = Declared::of(&names, alloc)?;
+    let params = with(&own, &*inner, alloc)?;
+    first_round_body(has_key, children, &*round, &params, alloc)
+}
+
+/// The same, given the scopes round the parameters.
+#[cycle(captures)]
+fn first_round_body<'a>(
+    has_key: bool,
+    children: Children<'a>,
+    round: &[&Declared],
+    params: &[&Declared],
+    alloc: Global,
+) -> Result<Option<&'a Ident>, AllocError>
+    ensures { IfOk result (λ o. told o ≡ first_of (captured_in (of_function has_key (scopes round.now) (scopes params.now) (with_body (children_forest children.entry) (scopes params.now))) (children_forest children.entry))) }
+{
+    let mut names = Vec::new(alloc);
+    add_body(&mut names, half_of(children, Half::Body))?;
+    let own = Declared::of(&names, alloc)?;
+    let body = with(&own, &*params, alloc)?;
+    let places = Round::of_function(has_key, &*round, &*params, &body);
+    first_among(children, places, alloc)
+}
+
+/// The first captured name among nodes in a row.
+#[cycle(captures)]
+#[tactic(auto, using(swc_visit::proofs::Caps::rest_falls, swc_resolved::proofs::Sizes::rest_within, crate::proofs::First::child_falls, crate::proofs::First::found_among, crate::proofs::First::goes_on, crate::proofs::First::ends))]
+fn first_among<'a>(
+    children: Children<'a>,
+    places: Round<'_>,
+    alloc: Global,
+) -> Result<Option<&'a Ident>, AllocError>
+    ensures { IfOk result (λ o. told o ≡ first_of (captured_in (inside places.entry) (children_forest children.entry))) }
+{
+    let mut left = children;
+    let mut around = places;
+    while let Some((child, rest)) = left.next() {
+        let found = first_in(child, around.first, alloc)?;
+        if found.is_some() {
+            return Ok(found);
+        }
+        around = around.behind_first();
+        left = rest;
+    }
+    Ok(None)
+}
