@@ -1,6 +1,5 @@
 pub mod Resting
 pub mod Folded
-pub mod Views
 pub mod Shields
 pub mod Statements
 pub mod SimplifyLaw

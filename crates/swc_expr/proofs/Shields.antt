@@ -10,7 +10,7 @@ use Rattle.swc_ast.specs.declared.expressions.Expr.{Expr}
 use Rattle.swc_ast.specs.declared.Span.{Span}
 use Rattle.swc_static.specs.Free.{kind_at}
 use Rattle.swc_walk.specs.Parts.{stands_alone}
-use Rattle.swc_walk.specs.Walks.{Fits}
+use Rattle.swc_walk.specs.Walks.{Fits, Stepped}
 use Rattle.swc_walk.specs.declared.rules.Place.{Place}
 use Rattle.swc_walk.specs.declared.rules.Place.TheVariants as place
 use Rattle.swc_walk.specs.Parts.{is_bare}
@@ -20,10 +20,11 @@ use Rattle.expr_rules.specs.ExprSteps.{ExprStep, front, text_length, text_charac
 use Rattle.expr_rules.specs.Leaves.{guarded}
 use Rattle.expr_steps.specs.Laws.{is_guarded, is_member_or_name}
 use Rattle.expr_steps.proofs.Roomy.{guarded_lighter}
-use Rattle.swc_expr.specs.Places.{is_shielding, is_shield, nowhere, shielded}
+use Rattle.expr_places.specs.Places.{is_shielding, is_shield, nowhere, shielded}
 use Rattle.expr_rules.specs.Replaced.{Replaced}
 use Rattle.expr_steps.proofs.ExprTrees.{is_an_expression}
-use Rattle.swc_expr.specs.Simplifies.{Rests, Simplifies, folds}
+use Rattle.expr_places.specs.Dropped.{MayDrop}
+use Rattle.swc_expr.specs.Simplifies.{Rests, Simplifies, folds, default_goes, simplify_pass}
 
 -- a sequence rests
 pub shield_rests : (p : Place) (t : Tree) → is_shield p t ≡ true → Rests t
@@ -83,3 +84,8 @@ shielded_fits p u = by_place (stands_alone p u) refl
 -- what a fold answers, in an expression's place
 pub folded_at : (mark : ℕ) (p : Place) (t v : Tree) (o : Option Expr) (u w : Expr) → is_shield p t ≡ false → o ≡ Some u → Replaced mark t v o → expr_tree w ≡ shielded p (expr_tree u) → Simplifies mark t (expr_tree w)
 folded_at mark p t v o u w h is r e = folds (is_an_expression w) (subst (ExprStep mark t) (sym e) (shield_step mark p t (expr_tree u) h (subst (Replaced mark t v) is r)))
+
+-- a parameter that may have lost its default
+pub default_at : (mark : ℕ) (c : Bool) (t u : Tree) → MayDrop mark c t u → Stepped (simplify_pass mark) c t u
+default_at mark true t u d = default_goes d
+default_at mark false t u d = d

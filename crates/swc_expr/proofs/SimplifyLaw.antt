@@ -25,6 +25,7 @@ use Rattle.swc_kept.proofs.Plain.{right_same}
 use Rattle.swc_kept.proofs.Static.{whole_resolved, whole_core, whole_falls, whole_free}
 use Rattle.swc_pass.specs.Pass.{SameBare, TellsChange}
 use Rattle.expr_rules.specs.Replaced.{expr_redex}
+use Rattle.expr_places.specs.Dropped.{dropped}
 use Rattle.expr_steps.proofs.Defaults.{void_is_undefined}
 use Rattle.expr_steps.proofs.DefaultsOwe.{default_owes}
 use Rattle.expr_steps.proofs.ExprSteps.{step_exact}
@@ -36,7 +37,7 @@ use Rattle.swc_expr.specs.Simplified.{Simplified}
 
 step_right : (mark : ℕ) (t u : Tree) → Simplifies mark t u → NodeRight mark t u
 step_right mark t u (folds e s) = does_same (step_exact s) (step_fits e s) (step_no_item s)
-step_right mark t u (default_goes {d = d} h) = undefined_goes (void_is_undefined mark d h)
+step_right mark t u (default_goes (dropped x ss rs d h)) = undefined_goes (void_is_undefined mark d h)
 
 simplify_right : (mark : ℕ) → PlainRight (simplify_pass mark) mark
 simplify_right mark = record {
@@ -53,7 +54,7 @@ simplify_right mark = record {
 
 simplifies_owe : {mark : ℕ} {P : Name → Type 0} {t u : Tree} → Simplifies mark t u → Step ⊥ P t u
 simplifies_owe (folds e s) = step_owes e s
-simplifies_owe {mark} (default_goes {x = x} {ss = ss} {rs = rs} {d = d} h) = default_owes x ss rs d
+simplifies_owe (default_goes (dropped x ss rs d h)) = default_owes x ss rs d
 
 owes : {mark : ℕ} {P : Name → Type 0} (t u : Tree) → Does (simplify_pass mark) t u → Step ⊥ P t u
 owes t u (at_front s) = absurd s
@@ -65,7 +66,7 @@ owes t u (at_both e d s) = absurd d
 
 below : {mark : ℕ} {t u : Tree} → Simplifies mark t u → is_top (label_of t) ≡ false
 below (folds e s) = step_below s
-below (default_goes h) = refl
+below (default_goes (dropped x ss rs d h)) = refl
 
 loses : {mark : ℕ} (t u : Tree) → Does (simplify_pass mark) t u → LosesNoVar t u
 loses t u (at_front s) = absurd s

@@ -1,20 +1,19 @@
 -- What the expression simplifier does at a node whose children it has done.
-use Rattle.std.specs.Prelude.{ℕ, ◌≡◌, true, false, List}
-use Rattle.swc_ast.specs.declared.Span.{Span}
+use Rattle.std.specs.Prelude.{ℕ, ◌≡◌, true, false}
 use Rattle.swc_ast.specs.Redex.{is_delete}
-use Rattle.swc_ast.specs.Tree.{Name, Param, Tree, node, ε, ◌⊳◌}
+use Rattle.swc_ast.specs.Tree.{Tree}
 use Rattle.swc_static.specs.Drawn.{is_expression}
 use Rattle.swc_static.specs.Free.{kind_at}
 use Rattle.swc_static.specs.Names.{label_of}
 use Rattle.swc_walk.specs.Pass.{Pass}
-use Rattle.expr_rules.specs.Defaults.{is_void}
+use Rattle.expr_places.specs.Dropped.{Dropped}
 use Rattle.expr_rules.specs.ExprSteps.{ExprStep}
 use Rattle.expr_rules.specs.Replaced.{expr_redex}
 
 -- a node of an expression becomes the expression that one of the rules makes of it, or a default that is undefined anyway goes
 pub data Simplifies (mark : ℕ) : Tree → Tree → Type 0 where
   folds : {t u : Tree} → is_expression (label_of u) ≡ true → ExprStep mark t u → Simplifies mark t u
-  default_goes : {x : Name} {ss rs : List Span} {d : Tree} → is_void mark d ≡ true → Simplifies mark (node (Param x) ss (d ⊳ ε)) (node (Param x) rs ε)
+  default_goes : {t u : Tree} → Dropped mark t u → Simplifies mark t u
 
 -- a node that is no operator and no condition on literals that tell what it gives
 abbrev pub Rests : Tree → Type 0

@@ -1,8 +1,6 @@
 //! The expression simplifier: operators, conditions, sequences, spreads and members of what is known become what they give.
 #![tactic(auto)]
 
-mod defaults;
-mod places;
 mod rules;
 mod simplify;
 

@@ -1,18 +1,15 @@
 //! The rules of the pass at each node.
-ghost use Rattle.std.specs.Prelude.{◌≡◌, IfOk, IsNone, IsTrue, true};
-ghost use Rattle.swc_ast.specs.Redex as redex;
+ghost use Rattle.std.specs.Prelude.{◌≡◌, IfOk, IsNone};
 ghost use Rattle.swc_ast.specs.Views.{expr_tree};
-ghost use Rattle.swc_static.specs.Names.{label_of};
 ghost use Rattle.swc_utils.specs.Globals.{unresolved};
 ghost use Rattle.expr_rules.specs.Replaced.{Replaced};
 ghost use Rattle.swc_expr.specs.Simplifies.{Rests, simplify_pass};
 
-use crate::defaults::drop_default;
-use crate::places::{is_shield, shielded};
 use expr_members::{fold_member, fold_sequence, spread_items, spread_properties};
 use expr_operators::{fold_binary, fold_condition, fold_unary};
+use expr_places::{drop_default, is_delete, is_shield, shielded};
 use std::alloc::{AllocError, Global};
-use swc_ast::{Expr, ModuleItem, PassError, Pat, Stmt, UnaryOp};
+use swc_ast::{Expr, ModuleItem, PassError, Pat, Stmt};
 use swc_utils::ExprCtx;
 use swc_walk::{ListPlace, Place, Rules};
 
@@ -36,19 +33,6 @@ fn is_read(place: Place) -> bool {
     match place {
         Place::Value | Place::Statement | Place::TypeOf => true,
         Place::Callee | Place::Delete | Place::Part => false,
-    }
-}
-
-/// Whether an expression is `delete` of something.
-fn is_delete(e: &Expr) -> bool
-    ensures { IsTrue result → redex.is_delete (label_of (expr_tree e.now)) ≡ true }
-{
-    match e {
-        Expr::Unary(n) => match n.op {
-            UnaryOp::Delete => true,
-            _ => false,
-        },
-        _ => false,
     }
 }
 

@@ -3,9 +3,8 @@ ghost use Rattle.std.specs.Prelude.{◌≡◌};
 ghost use Rattle.swc_ast.specs.Expressions.{param_tree};
 ghost use Rattle.swc_ast.specs.Views.{expr_tree};
 ghost use Rattle.swc_utils.specs.Globals.{unresolved};
-ghost use Rattle.swc_walk.specs.Walks.{Stepped};
 ghost use Rattle.expr_rules.specs.Defaults as rules;
-ghost use Rattle.swc_expr.specs.Simplifies.{simplify_pass};
+ghost use Rattle.expr_places.specs.Dropped.{MayDrop};
 
 use std::alloc::{AllocError, Global};
 use std::mem;
@@ -26,9 +25,10 @@ fn is_void(ctx: &ExprCtx, e: &Expr) -> bool
     }
 }
 
-/// A default that is undefined goes: the parameter is that without it.
-pub(crate) fn drop_default(alloc: Global, ctx: &ExprCtx, p: &mut Pat) -> bool
-    ensures { Stepped (simplify_pass (unresolved ctx.now)) result (param_tree expr_tree p.old) (param_tree expr_tree p.new) }
+/// Drops the default of a parameter where it is `undefined`, or `void` of an expression without effects: without one a
+/// parameter is undefined too (ECMA-262, 8.6.3). Answers whether it did; where it didn't the parameter is as it was.
+pub fn drop_default(alloc: Global, ctx: &ExprCtx, p: &mut Pat) -> bool
+    ensures { MayDrop (unresolved ctx.now) result (param_tree expr_tree p.old) (param_tree expr_tree p.new) }
 {
     match p {
         Pat::Ident(_) => false,

@@ -1,5 +1,5 @@
-use Rattle.swc_expr.proofs.Views.{short_list, long_list}
-use Rattle.swc_expr.proofs.places.is_shielding.Goals as goal
+use Rattle.expr_places.proofs.Views.{short_list, long_list}
+use Rattle.expr_places.proofs.places.is_shielding.Goals as goal
 
 pub returns-in_default : goal.returns-in_default
 returns-in_default c = short_list _ _ c.in_default.len_below

@@ -1,6 +1,6 @@
 use Rattle.std.proofs.Common.{rules, ap, ◌∙◌}
-use Rattle.swc_expr.proofs.Views.{other_void, void_at, void_not_at}
-use Rattle.swc_expr.proofs.defaults.is_void.Goals as goal
+use Rattle.expr_places.proofs.Views.{other_void, void_at, void_not_at}
+use Rattle.expr_places.proofs.defaults.is_void.Goals as goal
 
 pub returns-in-Void : goal.returns-in-Void
 returns-in-Void c = void_at _ _ _ _ c.in-Unary.is c.in-Void.is (cc (c.may_have_side_effects.ensures.answer, c.deref.ensures))

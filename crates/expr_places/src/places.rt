@@ -1,13 +1,14 @@
 //! Places where a member or a name would mean something else than an expression of its value: a call of a member hands on
 //! its object, a call of `eval` is direct, and `typeof` of a name doesn't throw.
-ghost use Rattle.std.specs.Prelude.{◌≡◌, IfOk};
+ghost use Rattle.std.specs.Prelude.{◌≡◌, IfOk, IsTrue, true};
 ghost use Rattle.swc_ast.specs.Parts.{list_trees};
 ghost use Rattle.swc_ast.specs.Redex as redex;
 ghost use Rattle.swc_ast.specs.Views.{expr_tree};
-ghost use Rattle.swc_expr.specs.Places as places;
+ghost use Rattle.swc_static.specs.Names.{label_of};
+ghost use Rattle.expr_places.specs.Places as places;
 
 use std::alloc::{AllocError, Global};
-use swc_ast::{Expr, Lit, Number, SeqExpr, Span};
+use swc_ast::{Expr, Lit, Number, SeqExpr, Span, UnaryOp};
 use swc_walk::{Place, fits};
 
 /// The span of what stands nowhere in the text.
@@ -39,7 +40,7 @@ fn is_shielding(place: Place, exprs: &[Expr]) -> bool
 
 /// Whether an expression is `(0, e)`, where e would mean something else by itself.
 #[tactic(auto, using(swc_ast::proofs::Equations::forms))]
-pub(crate) fn is_shield(place: Place, e: &Expr) -> bool
+pub fn is_shield(place: Place, e: &Expr) -> bool
     ensures { result ≡ places.is_shield place (expr_tree e.now) }
 {
     match e {
@@ -48,9 +49,10 @@ pub(crate) fn is_shield(place: Place, e: &Expr) -> bool
     }
 }
 
-/// An expression, or `(0, e)` where it would mean something else by itself.
+/// An expression, or `(0, e)` where it would mean something else by itself: a call of a member hands on its object, a call of
+/// `eval` is direct, and `typeof` of a name doesn't throw (ECMA-262, 13.3.6.1 and 13.5.3.1). Fails where memory is refused.
 #[tactic(auto, using(swc_ast::proofs::Equations::forms))]
-pub(crate) fn shielded(alloc: Global, place: Place, e: Expr) -> Result<Expr, AllocError>
+pub fn shielded(alloc: Global, place: Place, e: Expr) -> Result<Expr, AllocError>
     ensures { IfOk result (λ r. expr_tree r ≡ places.shielded place (expr_tree e)) }
 {
     if fits(place, &e) {
@@ -65,4 +67,17 @@ pub(crate) fn shielded(alloc: Global, place: Place, e: Expr) -> Result<Expr, All
         span: NOWHERE,
         exprs,
     }))
+}
+
+/// Whether an expression is `delete` of something. Its operand is a reference, and no pass enters it.
+pub fn is_delete(e: &Expr) -> bool
+    ensures { IsTrue result → redex.is_delete (label_of (expr_tree e.now)) ≡ true }
+{
+    match e {
+        Expr::Unary(n) => match n.op {
+            UnaryOp::Delete => true,
+            _ => false,
+        },
+        _ => false,
+    }
 }

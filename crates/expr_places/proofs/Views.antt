@@ -30,8 +30,8 @@ use Rattle.swc_walk.specs.Parts.{stands_alone}
 use Rattle.swc_walk.specs.declared.rules.Place.{Place}
 use Rattle.expr_rules.specs.Defaults.{is_void}
 use Rattle.expr_rules.specs.Leaves.{guarded}
-use Rattle.swc_expr.specs.Places.{is_shielding, is_shield, nowhere, shielded}
-use Rattle.swc_expr.specs.Simplifies.{Simplifies, default_goes}
+use Rattle.expr_places.specs.Places.{is_shielding, is_shield, nowhere, shielded}
+use Rattle.expr_places.specs.Dropped.{Dropped, dropped}
 
 form_of : (p : ExprForm) (e : Expr) → roll-Expr p ≡ e → expr_form (label_of (expr_tree e)) ≡ expr_number p
 form_of p e r = ap (λ x. expr_form (label_of (expr_tree x))) (sym r) ∙ expr_at p
@@ -104,8 +104,8 @@ pub void_not_at : (mark : ℕ) (e : Expr) (n : UnaryExpr Expr) → e ≡ in_expr
 void_not_at mark e n is h = sym (ap (λ x. is_void mark (expr_tree x)) is ∙ ap (is_void mark) (expr_tree-Unary n) ∙ other_operator mark n.op n.span (expr_tree n.arg.value) h)
 
 -- a parameter without its default
-pub without_default : (mark : ℕ) (p : Pat Expr) (n : AssignPat Expr) (x : Ident) → p ≡ pat.Assign n → x ≡ n.left → is_void mark (expr_tree n.right.value) ≡ true → Simplifies mark (param_tree expr_tree p) (leaf (tree.Param (ident_name x)) x.span)
-without_default mark p n x is same h = subst (λ q. Simplifies mark (param_tree expr_tree q) (leaf (tree.Param (ident_name x)) x.span)) (sym is) (subst (λ y. Simplifies mark (param_tree expr_tree (pat.Assign n)) (leaf (tree.Param (ident_name y)) y.span)) (sym same) (default_goes h))
+pub without_default : (mark : ℕ) (p : Pat Expr) (n : AssignPat Expr) (x : Ident) → p ≡ pat.Assign n → x ≡ n.left → is_void mark (expr_tree n.right.value) ≡ true → Dropped mark (param_tree expr_tree p) (leaf (tree.Param (ident_name x)) x.span)
+without_default mark p n x is same h = subst (λ q. Dropped mark (param_tree expr_tree q) (leaf (tree.Param (ident_name x)) x.span)) (sym is) (subst (λ y. Dropped mark (param_tree expr_tree (pat.Assign n)) (leaf (tree.Param (ident_name y)) y.span)) (sym same) (dropped _ _ _ _ h))
 
 -- a sequence of two items alone shields
 pub short_list : (p : Place) (xs : List Expr) → length xs < 2 → false ≡ is_shielding p (list_trees expr_tree xs)
