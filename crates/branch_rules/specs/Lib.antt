@@ -1,0 +1,10 @@
+pub mod Ignored
+pub mod Expressions
+pub mod Vars
+pub mod Statements
+pub mod Jumps
+pub mod Once
+pub mod Switches
+pub mod Lists
+pub mod Removes
+pub mod Turns

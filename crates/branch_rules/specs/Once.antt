@@ -1,0 +1,41 @@
+-- What a `do` becomes whose test is false: its body, run once.
+use Rattle.std.specs.Prelude.{ℕ, ◌≡◌, Bool, true, false, List, Some, None}
+use Rattle.swc_ast.specs.declared.Span.{Span}
+use Rattle.swc_ast.specs.Tree.{Block, Break, Continue, DoWhile, FnDecl, Tree, node, Forest, ε, ◌⊳◌}
+use Rattle.swc_ast.specs.Scope.{joined}
+use Rattle.swc_utils.specs.Known.{truth}
+use Rattle.swc_utils.specs.Pure.{pure}
+use Rattle.swc_static.specs.Drawn.{is_expression}
+use Rattle.swc_static.specs.Names.{label_of}
+use Rattle.branch_rules.specs.Jumps.{Kinds, escapes, some_escape}
+use Rattle.branch_rules.specs.Statements.{is_plain, gives_nothing}
+
+-- `break` and `continue` of a loop, and each labelled `continue`: under some labels it goes on with the loop
+abbrev pub looping : Kinds
+looping = record { breaks = true; continues = true; labelled = true }
+
+-- each labelled `continue`
+abbrev pub labelling : Kinds
+labelling = record { breaks = false; continues = false; labelled = true }
+
+-- an unlabelled `break` or `continue`
+abbrev pub is_jump : Tree → Bool
+is_jump (node (Break None) ss ε) = true
+is_jump (node (Continue None) ss ε) = true
+is_jump _ = false
+
+-- function declarations alone
+abbrev pub all_functions : Forest → Bool
+all_functions ε = true
+all_functions (node (FnDecl x) ss cs ⊳ ts) = all_functions ts
+all_functions _ = false
+
+-- a body that is run once, and what it becomes without the loop: no jump that is aimed at the loop is left in it
+pub data OnceRun : Tree → Forest → Type 0 where
+  whole : (b : Tree) → is_plain b ≡ true → gives_nothing b ≡ true → escapes looping b ≡ false → OnceRun b (b ⊳ ε)
+  a_jump : (t : Tree) → is_jump t ≡ true → OnceRun t ε
+  -- the first direct jump goes; nothing but functions stands behind it
+  inside : (bs us : List Span) (ts : Forest) (t : Tree) (rest : Forest) → some_escape looping ts ≡ false → is_jump t ≡ true → all_functions rest ≡ true → OnceRun (node Block bs (joined ts (t ⊳ rest))) (node Block us (joined ts rest) ⊳ ε)
+
+pub data DoStep (mark : ℕ) : Tree → Forest → Type 0 where
+  do_once : (ss : List Span) (b t : Tree) {us : Forest} → is_expression (label_of t) ≡ true → pure mark t ≡ true → truth mark t ≡ Some false → OnceRun b us → DoStep mark (node DoWhile ss (b ⊳ t ⊳ ε)) us

@@ -1,0 +1,128 @@
+-- What a `switch` becomes, its children being walked already. The spans of a new node are the caller's.
+use Rattle.std.specs.Prelude.{ℕ, ◌<◌, ◌≡◌, Bool, true, false, not, ◌&&◌, ◌||◌, if◌then◌else◌, List, [], ◌∷◌, ◌++◌, Some, None}
+use Rattle.swc_ast.specs.declared.Span.{Span}
+use Rattle.swc_ast.specs.Tree.{Break, FnDecl, CaseBody, Block, Switch, Tree, node, Forest, ε, ◌⊳◌}
+use Rattle.swc_ast.specs.Value.{Value}
+use Rattle.swc_ast.specs.Operators.{prim, strict_equal}
+use Rattle.swc_ast.specs.Scope.{joined, vars_all, declared}
+use Rattle.swc_ast.specs.Weight.{weight, is_stopper, unreached}
+use Rattle.expr_rules.specs.Values.{value_of}
+use Rattle.swc_utils.specs.Pure.{pure, no_trees}
+use Rattle.swc_static.specs.Drawn.{is_expression}
+use Rattle.swc_static.specs.Names.{label_of}
+use Rattle.branch_rules.specs.Jumps.{Kinds, escapes, some_escape}
+use Rattle.branch_rules.specs.Statements.{Alone, as_statement, is_absent, all_plain, all_give_nothing}
+use Rattle.branch_rules.specs.Vars.{VarsOf}
+
+-- `break` of the switch
+abbrev pub breaking : Kinds
+breaking = record { breaks = true; continues = false; labelled = false }
+
+-- a case: its test, which for `default` is absent, and its statements
+pub record Clause : Type 0 where
+  pub is_default : Bool
+  pub test : Tree
+  pub spans : List Span
+  pub body : Forest
+
+-- which cases are `default`
+abbrev pub kinds_of : List Clause → List Bool
+kinds_of [] = []
+kinds_of (k ∷ ks) = k.is_default ∷ kinds_of ks
+
+-- the children of a switch behind its discriminant
+abbrev pub trees_of : List Clause → Forest
+trees_of [] = ε
+trees_of (k ∷ ks) = k.test ⊳ node CaseBody k.spans k.body ⊳ trees_of ks
+
+-- the statements of all cases
+abbrev pub bodies_of : List Clause → Forest
+bodies_of [] = ε
+bodies_of (k ∷ ks) = joined k.body (bodies_of ks)
+
+-- a switch
+abbrev pub switch_tree : List Span → Tree → List Clause → Tree
+switch_tree ss d ks = node (Switch (kinds_of ks)) ss (d ⊳ trees_of ks)
+
+-- the test of a case is an expression, that of `default` is left out
+abbrev pub has_test : Clause → Bool
+has_test k = if k.is_default then is_absent k.test else is_expression (label_of k.test)
+
+-- the same of each case
+abbrev pub have_tests : List Clause → Bool
+have_tests [] = true
+have_tests (k ∷ ks) = has_test k && have_tests ks
+
+-- an expression that no `break` leaves
+abbrev pub is_discriminant : Tree → Bool
+is_discriminant d = is_expression (label_of d) && not (escapes breaking d)
+
+-- each test is pure
+abbrev pub pure_tests : ℕ → List Clause → Bool
+pure_tests mark [] = true
+pure_tests mark (k ∷ ks) = (k.is_default || pure mark k.test) && pure_tests mark ks
+
+-- none is `default`
+abbrev pub no_default : List Clause → Bool
+no_default [] = true
+no_default (k ∷ ks) = not k.is_default && no_default ks
+
+-- each list is empty
+abbrev pub all_empty : List Clause → Bool
+all_empty [] = true
+all_empty (k ∷ ks) = no_trees k.body && all_empty ks
+
+-- an unlabelled `break`
+abbrev pub is_break : Tree → Bool
+is_break (node (Break None) ss ε) = true
+is_break _ = false
+
+-- an empty list, or one that begins so
+abbrev pub starts_with_break : Forest → Bool
+starts_with_break ε = true
+starts_with_break (t ⊳ ts) = is_break t
+
+-- each list is empty or begins with an unlabelled `break`
+abbrev pub nothing_runs : List Clause → Bool
+nothing_runs [] = true
+nothing_runs (k ∷ ks) = starts_with_break k.body && nothing_runs ks
+
+-- cases that a value passes: their tests are known and unequal; `default` is passed over
+pub data Passed (mark : ℕ) (v : Value) : List Clause → Type 0 where
+  none_passed : Passed mark v []
+  unequal : (k : Clause) (w : Value) {ks : List Clause} → k.is_default ≡ false → pure mark k.test ≡ true → value_of mark k.test ≡ Some w → strict_equal (prim v) (prim w) ≡ Some false → Passed mark v ks → Passed mark v (k ∷ ks)
+  over_default : (k : Clause) {ks : List Clause} → k.is_default ≡ true → Passed mark v ks → Passed mark v (k ∷ ks)
+
+-- function declarations among some statements
+abbrev pub functions_of : Forest → Forest
+functions_of ε = ε
+functions_of (node (FnDecl x) ss cs ⊳ ts) = node (FnDecl x) ss cs ⊳ functions_of ts
+functions_of (t ⊳ ts) = functions_of ts
+
+-- all others
+abbrev pub others_of : Forest → Forest
+others_of ε = ε
+others_of (node (FnDecl x) ss cs ⊳ ts) = others_of ts
+others_of (t ⊳ ts) = t ⊳ others_of ts
+
+-- Statements in a switch, what stays of them outside and what goes: a direct `break` of the switch goes, and what was not
+-- reached behind it or behind another stopper, but for functions; all other `break`s in them are aimed at something in them.
+pub data Unbroken : Forest → Forest → Forest → Type 0 where
+  no_break : (ts : Forest) → some_escape breaking ts ≡ false → Unbroken ts ts ε
+  break_goes : (ts : Forest) (ss : List Span) (us : Forest) → some_escape breaking ts ≡ false → Unbroken (joined ts (node (Break None) ss ε ⊳ us)) (joined ts (functions_of us)) (others_of us)
+  stops_before : (ts : Forest) (t : Tree) (us : Forest) → some_escape breaking ts ≡ false → is_stopper t ≡ true → escapes breaking t ≡ false → Unbroken (joined ts (t ⊳ us)) (joined ts (t ⊳ functions_of us)) (others_of us)
+
+pub data SwitchStep (mark : ℕ) : Tree → Forest → Type 0 where
+  -- no case does anything
+  nothing_left : {c : Bool} (ss : List Span) (d : Tree) (ks : List Clause) {es vs : Forest} → is_discriminant d ≡ true → have_tests ks ≡ true → pure_tests mark ks ≡ true → nothing_runs ks ≡ true → declared (bodies_of ks) ≡ [] → Alone mark c d es → VarsOf (bodies_of ks) vs → SwitchStep mark (switch_tree ss d ks) (joined es vs)
+  -- `default` alone, or behind cases of which only the tests are run: its statements, in a block of their own where they declare something
+  only_default : {c : Bool} (ss : List Span) (d : Tree) (fs : List Clause) (k : Clause) {es ts gs : Forest} → is_discriminant d ≡ true → have_tests (fs ++ k ∷ []) ≡ true → pure_tests mark (fs ++ k ∷ []) ≡ true → no_default fs ≡ true → all_empty fs ≡ true → k.is_default ≡ true → Alone mark c d es → Unbroken k.body ts gs → vars_all gs ≡ [] → declared ts ≡ declared k.body → unreached ts ≡ 0 → all_plain ts ≡ true → all_give_nothing ts ≡ true → SwitchStep mark (switch_tree ss d (fs ++ k ∷ [])) (joined es ts)
+  only_default_apart : {c : Bool} (ss us : List Span) (d : Tree) (fs : List Clause) (k : Clause) {es ts gs : Forest} → is_discriminant d ≡ true → have_tests (fs ++ k ∷ []) ≡ true → pure_tests mark (fs ++ k ∷ []) ≡ true → no_default fs ≡ true → all_empty fs ≡ true → k.is_default ≡ true → Alone mark c d es → Unbroken k.body ts gs → vars_all gs ≡ [] → declared ts ≡ declared k.body → unreached ts ≡ 0 → SwitchStep mark (switch_tree ss d (fs ++ k ∷ [])) (joined es (node Block us ts ⊳ ε))
+  -- a case is known to be selected
+  selected_case : (ss us : List Span) (d : Tree) (v w : Value) (fs : List Clause) (k : Clause) (ks : List Clause) {ts gs vs : Forest} → is_discriminant d ≡ true → have_tests (fs ++ k ∷ ks) ≡ true → pure mark d ≡ true → value_of mark d ≡ Some v → Passed mark v fs → k.is_default ≡ false → pure mark k.test ≡ true → value_of mark k.test ≡ Some w → strict_equal (prim v) (prim w) ≡ Some true → Unbroken (bodies_of (k ∷ ks)) ts gs → declared ts ≡ declared (bodies_of (fs ++ k ∷ ks)) → VarsOf (joined (bodies_of fs) gs) vs → unreached ts ≡ 0 → SwitchStep mark (switch_tree ss d (fs ++ k ∷ ks)) (node Block us (joined vs ts) ⊳ ε)
+  -- `default` is known to be selected
+  selected_default : (ss us : List Span) (d : Tree) (v : Value) (fs : List Clause) (k : Clause) (ks : List Clause) {ts gs vs : Forest} → is_discriminant d ≡ true → have_tests (fs ++ k ∷ ks) ≡ true → pure mark d ≡ true → value_of mark d ≡ Some v → Passed mark v (fs ++ k ∷ ks) → no_default fs ≡ true → k.is_default ≡ true → Unbroken (bodies_of (k ∷ ks)) ts gs → declared ts ≡ declared (bodies_of (fs ++ k ∷ ks)) → VarsOf (joined (bodies_of fs) gs) vs → unreached ts ≡ 0 → SwitchStep mark (switch_tree ss d (fs ++ k ∷ ks)) (node Block us (joined vs ts) ⊳ ε)
+  -- no case is selected
+  none_selected : (ss : List Span) (d : Tree) (v : Value) (ks : List Clause) {vs : Forest} → is_discriminant d ≡ true → have_tests ks ≡ true → pure mark d ≡ true → value_of mark d ≡ Some v → Passed mark v ks → no_default ks ≡ true → declared (bodies_of ks) ≡ [] → VarsOf (bodies_of ks) vs → SwitchStep mark (switch_tree ss d ks) vs
+  -- leading cases are known to be passed; what is left is lighter
+  leading_go : (ss us rs : List Span) (d : Tree) (v : Value) (fs ks : List Clause) {vs : Forest} → is_discriminant d ≡ true → have_tests (fs ++ ks) ≡ true → value_of mark d ≡ Some v → Passed mark v fs → no_default fs ≡ true → declared (bodies_of ks) ≡ declared (bodies_of (fs ++ ks)) → VarsOf (bodies_of fs) vs → weight (as_statement rs (joined vs (switch_tree us d ks ⊳ ε))) < weight (switch_tree ss d (fs ++ ks)) → SwitchStep mark (switch_tree ss d (fs ++ ks)) (joined vs (switch_tree us d ks ⊳ ε))

@@ -1,0 +1,1 @@
+//! The rules of the dead-branch remover, as relations on trees.
