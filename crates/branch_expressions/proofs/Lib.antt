@@ -1,0 +1,10 @@
+pub mod Made
+pub mod Adding
+pub mod ArrayItems
+pub mod Kept
+pub mod Arms
+pub mod Voids
+pub mod Nodes
+pub mod Answered
+pub mod Hosts
+pub mod Fronts

@@ -1,0 +1,6 @@
+pub mod Shapes
+pub mod Items
+pub mod Exported
+pub mod Going
+pub mod Turns
+pub mod Lists

@@ -1,0 +1,4 @@
+pub mod Swept
+pub mod Exports
+pub mod Cuts
+pub mod Tidy
