@@ -1,0 +1,13 @@
+//! What loops become whose parts do nothing, whose tests are known, or whose bodies are run once.
+#![tactic(auto)]
+
+mod dos;
+mod fors;
+mod looks;
+mod nodes;
+mod once;
+mod whiles;
+
+pub use dos::fold_do;
+pub use fors::fold_for;
+pub use whiles::fold_while;

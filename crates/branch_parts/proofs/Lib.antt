@@ -1,0 +1,2 @@
+pub mod GivesNothing
+pub mod Left

@@ -1,0 +1,3 @@
+pub mod Rested
+pub mod Tells
+pub mod Turned

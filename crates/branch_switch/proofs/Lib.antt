@@ -1,0 +1,11 @@
+pub mod Forms
+pub mod Keeping
+pub mod Loops
+pub mod Idle
+pub mod Typed
+pub mod Selected
+pub mod Planned
+pub mod Meeting
+pub mod Default
+pub mod Room
+pub mod Behind

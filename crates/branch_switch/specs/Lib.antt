@@ -1,0 +1,6 @@
+pub mod Clauses
+pub mod Kept
+pub mod Defaults
+pub mod Sorts
+pub mod Plans
+pub mod Values

@@ -1,0 +1,15 @@
+//! What becomes of a `switch` of which it is known what it runs.
+#![tactic(auto)]
+
+mod bodies;
+mod clauses;
+mod defaults;
+mod folds;
+mod plan;
+mod selection;
+mod sorts;
+mod switch;
+mod unbroken;
+mod values;
+
+pub use switch::fold_switch;
