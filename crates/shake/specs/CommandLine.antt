@@ -7,7 +7,7 @@ use Rattle.std.specs.Option.{option_and_then, option_map}
 use Rattle.std.specs.Str.Parse.{digits_value}
 use Rattle.shake.specs.declared.options.Options.{Options}
 use Rattle.shake.specs.declared.options.PassName.{PassName}
-use Rattle.shake.specs.declared.options.PassName.TheVariants.{Expr}
+use Rattle.shake.specs.declared.options.PassName.TheVariants.{Expr, Branch}
 
 -- the number that decimal digits alone write, where a usize holds it
 abbrev pub count_in : List ℕ → Option ℕ
@@ -16,7 +16,10 @@ count_in (c ∷ cs) = if list_all is_ascii_digit (c ∷ cs) && nat_lt (digits_va
 
 -- the pass of this name
 abbrev pub pass_named : List ℕ → Option PassName
-pass_named word = if bytes_eq word (codes "expr") then Some Expr else None
+pass_named word =
+    if bytes_eq word (codes "expr") then Some Expr
+    else if bytes_eq word (codes "branch") then Some Branch
+    else None
 
 -- a pass with no options beside it
 abbrev pub defaults : PassName → Options

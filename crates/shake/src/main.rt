@@ -18,6 +18,7 @@ use std::env;
 use std::io::{ErrorKind, Read, Write};
 use std::process::ExitCode;
 use swc_ast::{Mark, Module, PassError};
+use swc_branch::dead_branch_remover;
 use swc_expr::{Config, expr_simplifier};
 use swc_pass::Pass;
 use swc_text::{print, read_module};
@@ -89,6 +90,10 @@ fn run_pass(
     match options.pass {
         PassName::Expr => {
             let mut pass = expr_simplifier(mark, Config {});
+            pass.fold_module(alloc, module)
+        }
+        PassName::Branch => {
+            let mut pass = dead_branch_remover(mark);
             pass.fold_module(alloc, module)
         }
     }

@@ -8,6 +8,7 @@ ghost use Rattle.shake.specs.CommandLine.{count_in, pass_named, defaults, takes_
 #[derive(Clone, Copy, Debug, PartialEq, Eq)]
 pub enum PassName {
     Expr,
+    Branch,
 }
 
 impl PassName {
@@ -17,6 +18,7 @@ impl PassName {
     {
         match name {
             "expr" => Some(PassName::Expr),
+            "branch" => Some(PassName::Branch),
             _ => None,
         }
     }

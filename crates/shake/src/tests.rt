@@ -137,6 +137,24 @@ fn answers_modules(rt: HostRuntime) -> Result<(), Fail> {
 }
 
 #[test]
+fn removes_branches(rt: HostRuntime) -> Result<(), Fail> {
+    let modules = [
+        ("if (a) { } b();", "a;\nb();\n"),
+        ("if (false) { var a = 1; } b(a);", "var a;\nb(a);\n"),
+        ("f(1 + 2);", "f(1 + 2);\n"),
+        ("", ""),
+    ];
+    for (text, output) in modules {
+        let sink = Sink::new(&rt, AMPLE);
+        let ran = ran(&rt, &["branch"], bytes(text.as_bytes()), sink, AMPLE)?;
+        assert_eq!(rt; ran.status, 0, "{text}");
+        assert_eq!(rt; ran.output.as_slice(), output.as_bytes(), "{text}");
+        assert!(rt; ran.said.is_empty(), "{text}");
+    }
+    Ok(())
+}
+
+#[test]
 fn takes_options(rt: HostRuntime) -> Result<(), Fail> {
     let lines: [&[&str]; 5] = [
         &["expr", "--keep-top", "--drop-imports"],
@@ -155,8 +173,9 @@ fn takes_options(rt: HostRuntime) -> Result<(), Fail> {
 
 #[test]
 fn refuses_arguments(rt: HostRuntime) -> Result<(), Fail> {
-    let lines: [&[&str]; 14] = [
+    let lines: [&[&str]; 15] = [
         &[],
+        &["branches"],
         &[""],
         &["fold"],
         &["EXPR"],

@@ -1,0 +1,5 @@
+//! Tests of the remover of dead branches, on texts.
+#![tactic(auto)]
+
+#[cfg(test)]
+mod texts;

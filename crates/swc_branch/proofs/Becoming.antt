@@ -1,0 +1,33 @@
+-- What the rules of statements and of lists do, as the walk asks for it.
+use Rattle.std.proofs.Common.{◌≡◌, ℕ, Bool, true, false, List, Option, Some, Ok, Err, IfOk, sym, subst}
+use Rattle.std.specs.declared.alloc.AllocError.{AllocError}
+use Rattle.std.specs.declared.result.Result.{Result}
+use Rattle.swc_ast.specs.Parts.{list_trees}
+use Rattle.swc_ast.specs.Tree.{Tree}
+use Rattle.swc_ast.specs.Views.{stmt_tree}
+use Rattle.swc_ast.specs.declared.statements.Stmt.{Stmt}
+use Rattle.swc_walk.specs.Lists.{ListBecame}
+use Rattle.swc_walk.specs.declared.rules.ListPlace.{ListPlace}
+use Rattle.swc_walk.specs.declared.rules.ListPlace.TheVariants as place
+use Rattle.branch_lists.specs.Tidy.{ListTidied, nothing_kept}
+use Rattle.branch_rules.specs.Removes.{Removes, of_statement, remove_pass}
+use Rattle.branch_rules.specs.Turns.{Turns, by_rule}
+
+-- what a rule made of a statement
+turned : {mark : ℕ} {t u : Tree} {s : Stmt} → Turns mark t u (Some s) → Removes mark t (stmt_tree s)
+turned {mark} {t} (by_rule rs r e) = subst (Removes mark t) (sym e) (of_statement rs r)
+
+pub turned_at : (mark : ℕ) (t u : Tree) (o : Option Stmt) (s : Stmt) → o ≡ Some s → Turns mark t u o → Removes mark t (stmt_tree s)
+turned_at mark t u o s is h = turned (subst (Turns mark t u) is h)
+
+-- lists
+list_became : (mark : ℕ) (p : ListPlace) (c : Bool) (xs ys : List Stmt) → ListTidied nothing_kept c (list_trees stmt_tree xs) (list_trees stmt_tree ys) → ListBecame (remove_pass mark) p c xs ys
+list_became mark place.Block true xs ys h = h
+list_became mark place.Body true xs ys h = h
+list_became mark place.Case true xs ys h = h
+list_became mark place.Script true xs ys h = h
+list_became mark p false xs ys h = h
+
+pub list_becomes : (mark : ℕ) (p : ListPlace) (r : Result Bool AllocError) (xs ys : List Stmt) → IfOk r (λ c. ListTidied nothing_kept c (list_trees stmt_tree xs) (list_trees stmt_tree ys)) → IfOk r (λ c. ListBecame (remove_pass mark) p c xs ys)
+list_becomes mark p (Ok c) xs ys h = list_became mark p c xs ys h
+list_becomes mark p (Err e) xs ys h = tt

@@ -1,0 +1,7 @@
+pub mod Looks
+pub mod Shields
+pub mod Resting
+pub mod Turning
+pub mod Replacing
+pub mod Becoming
+pub mod RemoveLaw

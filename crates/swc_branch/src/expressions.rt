@@ -1,0 +1,42 @@
+//! The rules of expressions.
+ghost use Rattle.std.specs.Prelude.{IfOk};
+ghost use Rattle.swc_ast.specs.Views.{expr_tree};
+ghost use Rattle.swc_utils.specs.Globals.{unresolved};
+ghost use Rattle.branch_rules.specs.Expressions.{Becomes};
+
+use branch_expressions::{fold_arms, fold_front, fold_itself};
+use std::alloc::{AllocError, Global};
+use swc_ast::Expr;
+use swc_utils::ExprCtx;
+
+/// What takes an expression's place, whose children are done. None: no rule fits, and it is as it was. Fails where memory
+/// is refused.
+#[tactic(auto)]
+pub(crate) fn fold_expr(
+    alloc: Global,
+    ctx: &ExprCtx,
+    e: &mut Expr,
+) -> Result<Option<Expr>, AllocError>
+    ensures { IfOk result (λ o. Becomes (unresolved ctx.now) (expr_tree e.old) (expr_tree e.new) o) }
+{
+    match e {
+        Expr::Seq(n) => fold_front(alloc, ctx, n),
+        Expr::Assign(n) => Ok(fold_itself(ctx, n)),
+        Expr::Cond(n) => Ok(fold_arms(ctx, n)),
+        Expr::This(_)
+        | Expr::Array(_)
+        | Expr::Object(_)
+        | Expr::Fn(_)
+        | Expr::Unary(_)
+        | Expr::Update(_)
+        | Expr::Bin(_)
+        | Expr::Member(_)
+        | Expr::Call(_)
+        | Expr::New(_)
+        | Expr::Ident(_)
+        | Expr::Lit(_)
+        | Expr::Tpl(_)
+        | Expr::Arrow(_)
+        | Expr::Invalid(_) => Ok(None),
+    }
+}

@@ -1,0 +1,73 @@
+//! The rules of the pass at each node.
+ghost use Rattle.swc_utils.specs.Globals.{unresolved};
+ghost use Rattle.branch_rules.specs.Removes.{remove_pass};
+
+use crate::expressions::fold_expr;
+use crate::places::is_cramped;
+use crate::statements::fold_stmt;
+use branch_lists::{tidy_items, tidy_statements};
+use expr_places::{drop_default, is_delete, shielded};
+use std::alloc::{AllocError, Global};
+use swc_ast::{Expr, ModuleItem, Pat, Stmt};
+use swc_utils::ExprCtx;
+use swc_walk::{ListPlace, Place, Rules};
+
+/// The rules, for a module whose unresolved names are those of a context.
+#[derive(Drop)]
+pub(crate) struct BranchRules {
+    pub(crate) alloc: Global,
+    pub(crate) ctx: ExprCtx,
+}
+
+impl Rules for BranchRules {
+    ghost pass = { λ r. remove_pass (unresolved r.ctx) };
+
+    fn enters_expr(&self, e: &Expr) -> bool {
+        !is_delete(e)
+    }
+
+    fn leave_expr(&self, place: Place, e: &mut Expr) -> Result<bool, AllocError> {
+        if is_cramped(place, e) {
+            return Ok(false);
+        }
+        match fold_expr(self.alloc, &self.ctx, e)? {
+            Some(folded) => {
+                *e = shielded(self.alloc, place, folded)?;
+                Ok(true)
+            }
+            None => Ok(false),
+        }
+    }
+
+    #[tactic(auto, using(crate::proofs::Shields::default_at))]
+    fn leave_param(&self, p: &mut Pat) -> Result<bool, AllocError> {
+        Ok(drop_default(self.alloc, &self.ctx, p))
+    }
+
+    fn leave_stmt(&self, s: &mut Stmt) -> Result<bool, AllocError> {
+        match fold_stmt(self.alloc, &self.ctx, s)? {
+            Some(turned) => {
+                *s = turned;
+                Ok(true)
+            }
+            None => Ok(false),
+        }
+    }
+
+    #[tactic(auto, using(crate::proofs::Becoming::list_becomes))]
+    fn leave_list(&self, _place: ListPlace, stmts: &mut Vec<Stmt>) -> Result<bool, AllocError> {
+        tidy_statements(self.alloc, stmts)
+    }
+
+    #[tactic(auto, using(crate::proofs::Resting::declaration_rests))]
+    fn leave_item(&self, item: &mut ModuleItem) -> Result<bool, AllocError> {
+        match item {
+            ModuleItem::ModuleDecl(_) => Ok(false),
+            ModuleItem::Stmt(n) => self.leave_stmt(n),
+        }
+    }
+
+    fn leave_items(&self, items: &mut Vec<ModuleItem>) -> Result<bool, AllocError> {
+        tidy_items(self.alloc, items)
+    }
+}

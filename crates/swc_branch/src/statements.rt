@@ -1,0 +1,43 @@
+//! The rules of statements.
+ghost use Rattle.std.specs.Prelude.{IfOk, IsNone};
+ghost use Rattle.swc_ast.specs.Views.{stmt_tree};
+ghost use Rattle.swc_utils.specs.Globals.{unresolved};
+ghost use Rattle.branch_rules.specs.Removes.{Rests};
+ghost use Rattle.branch_rules.specs.Turns.{Turns};
+
+use branch_loops::{fold_do, fold_for, fold_while};
+use branch_statements::{fold_block, fold_expression, fold_if, fold_label, fold_try};
+use branch_switch::fold_switch;
+use std::alloc::{AllocError, Global};
+use swc_ast::Stmt;
+use swc_utils::ExprCtx;
+
+/// What takes a statement's place, whose children are done. None: no rule fits, and it is as it was. Fails where memory
+/// is refused.
+#[tactic(auto, using(swc_ast::proofs::Equations::forms, crate::proofs::Resting::decl_rests, crate::proofs::Resting::unruled, crate::proofs::Turning::unturned))]
+pub(crate) fn fold_stmt(
+    alloc: Global,
+    ctx: &ExprCtx,
+    s: &mut Stmt,
+) -> Result<Option<Stmt>, AllocError>
+    ensures steps { IfOk result (λ o. Turns (unresolved ctx.now) (stmt_tree s.old) (stmt_tree s.new) o) }
+    ensures finished { IfOk result (λ o. IsNone o → Rests (stmt_tree s.new)) }
+{
+    match s {
+        Stmt::Expr(n) => fold_expression(alloc, ctx, n),
+        Stmt::If(n) => fold_if(alloc, ctx, n),
+        Stmt::Block(n) => Ok(fold_block(n)),
+        Stmt::Labeled(n) => Ok(fold_label(n)),
+        Stmt::Try(n) => fold_try(alloc, n),
+        Stmt::While(n) => fold_while(alloc, ctx, n),
+        Stmt::For(n) => fold_for(alloc, ctx, n),
+        Stmt::DoWhile(n) => fold_do(alloc, ctx, n),
+        Stmt::Switch(n) => fold_switch(alloc, ctx, n),
+        Stmt::Empty(_)
+        | Stmt::Return(_)
+        | Stmt::Break(_)
+        | Stmt::Continue(_)
+        | Stmt::Throw(_)
+        | Stmt::Decl(_) => Ok(None),
+    }
+}
