@@ -1,0 +1,68 @@
+//! What is known of the module that is walked.
+ghost use Rattle.std.specs.Prelude.{◌≡◌, map, string_bytes};
+ghost use Rattle.swc_ast.specs.Meaning.{is_unresolved};
+ghost use Rattle.swc_ast.specs.Parts.{ident_name};
+ghost use Rattle.swc_ast.specs.Run.{has_text};
+ghost use Rattle.swc_utils.specs.Globals.{unresolved};
+ghost use Rattle.dce_code.specs.Knowledge.{may_go, shaker};
+
+use dce_uses::Uses;
+use swc_ast::{Ident, SyntaxContext};
+use swc_utils::ExprCtx;
+
+/// What is known of the module or the script that is walked.
+#[derive(Clone, Copy, Drop)]
+pub struct Known<'a> {
+    /// How it uses its names.
+    pub uses: &'a Uses,
+    /// The texts of names that stay.
+    pub retained: &'a [String],
+    /// Which names are unresolved.
+    pub ctx: ExprCtx,
+    /// Whether an import goes of which no specifier is left.
+    pub drops_imports: bool,
+}
+
+/// Whether a text is among some.
+fn is_among(texts: &[String], text: &str) -> bool
+    ensures { result ≡ has_text text.now (map string_bytes texts.now) }
+{
+    let mut left = texts;
+    while let [first, rest @ ..] = left {
+        if text == first.as_str() {
+            return true;
+        }
+        left = rest;
+    }
+    false
+}
+
+/// Whether a name is unresolved.
+fn is_unresolved(ctx: ExprCtx, name: &Ident) -> bool
+    ensures { result ≡ is_unresolved (unresolved ctx) (ident_name name.now) }
+{
+    name.ctxt == SyntaxContext::empty() || name.ctxt == ctx.unresolved_ctxt
+}
+
+impl<'a> Known<'a> {
+    /// Whether a name may go: its text isn't retained.
+    fn may_go(&self, name: &Ident) -> bool
+        ensures { result ≡ may_go self.now (ident_name name.now) }
+    {
+        !is_among(self.retained, &name.sym)
+    }
+
+    /// Whether a name goes, with what declares it.
+    pub fn is_free(&self, name: &Ident) -> bool
+        ensures { result ≡ (shaker self.now).free (ident_name name.now) }
+    {
+        self.may_go(name) && self.uses.is_free(name)
+    }
+
+    /// Whether plain assignments to a name go.
+    pub fn is_unread(&self, name: &Ident) -> bool
+        ensures { result ≡ (shaker self.now).unread (ident_name name.now) }
+    {
+        self.may_go(name) && self.uses.is_unread(name) && !is_unresolved(self.ctx, name)
+    }
+}

@@ -1,0 +1,4 @@
+pub mod Uses
+pub mod Apart
+pub mod Left
+pub mod Shakes

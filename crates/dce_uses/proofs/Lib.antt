@@ -1,0 +1,10 @@
+mod Adding
+mod Said
+mod Searches
+mod Counting
+mod Lists
+mod Numbering
+mod Telling
+mod Absent
+mod Told
+mod Unexported

@@ -1,0 +1,55 @@
+-- Names that stand in lists, and those that items export.
+use Rattle.std.proofs.Common.{◌≡◌, Bool, true, false, ◌||◌, List, [], ◌++◌, sym, ap, ◌∙◌}
+use Rattle.std.specs.Prelude.{option_map}
+use Rattle.swc_ast.specs.Tree.{Name, Label, Tree, node, Forest, ε, ◌⊳◌}
+use Rattle.swc_visit.specs.Nodes.{label_of, children_of}
+use Rattle.dce_uses.specs.declared.tally.Fact.{Fact}
+use Rattle.dce_uses.specs.declared.listed.Part.{Part}
+use Rattle.dce_uses.specs.declared.table.Table.{Table}
+use Rattle.dce_uses.specs.Listed.{listed_name, listed}
+use Rattle.dce_uses.specs.Exports.{declaration_names, first_names, item_names, exported_names, is_nameless, any_nameless}
+use Rattle.dce_uses.specs.Tables.{Notes, fact_at}
+use Rattle.dce_uses.proofs.Adding.{noted_apart, none_named, goes_on, ends}
+use Rattle.dce_uses.proofs.Counting.{alone}
+
+-- names in a row: the first of them were noted
+
+-- what is left to note
+abbrev pub Left : Table → Table → Fact → List Name → List Name → Type 0
+Left u v g all left = (f : Fact) (x : Name) → option_map (λ b. b || alone g left f x) (fact_at v f x) ≡ option_map (λ b. b || alone g all f x) (fact_at u f x)
+
+pub more_names : (u v w : Table) (g : Fact) (all left here rest : List Name) → left ≡ here ++ rest → Notes v w (alone g here) → Left u v g all left → Left u w g all rest
+more_names u v w g all left here rest split h k = goes_on u v w (alone g all) (alone g here) (alone g rest) (alone g left) (λ f x. ap (λ xs. alone g xs f x) split ∙ noted_apart g f x here rest) h k
+
+pub no_more_names : (u v : Table) (g : Fact) (all left : List Name) → left ≡ [] → Left u v g all left → Notes u v (alone g all)
+no_more_names u v g all left none k = ends u v (alone g all) (alone g left) (λ f x. none_named g f x left none) k
+
+-- lists
+
+pub listed_split : (p : Part) (t : Tree) (ts us : Forest) (l : Label) (xs : List Name) → us ≡ t ⊳ ts → label_of t ≡ l → xs ≡ listed_name p l → listed p us ≡ xs ++ listed p ts
+listed_split p (node l ss cs) ts us k xs is labelled named = ap (listed p) is ∙ ap (λ m. listed_name p m ++ listed p ts) labelled ∙ ap (λ ys. ys ++ listed p ts) (sym named)
+
+pub listed_none : (p : Part) (us : Forest) → us ≡ ε → listed p us ≡ []
+listed_none p us is = ap (listed p) is
+
+-- items
+
+pub exported_split : (t : Tree) (ts us cs : Forest) (l : Label) → us ≡ t ⊳ ts → label_of t ≡ l → children_of t ≡ cs → exported_names us ≡ item_names l cs ++ exported_names ts
+exported_split (node l ss cs) ts us ds k is labelled held = ap exported_names is ∙ ap (λ m. item_names m cs ++ exported_names ts) labelled ∙ ap (λ es. item_names k es ++ exported_names ts) held
+
+pub first_as : (t : Tree) (ts us cs : Forest) (l : Label) → us ≡ t ⊳ ts → label_of t ≡ l → children_of t ≡ cs → first_names us ≡ declaration_names l cs
+first_as (node l ss cs) ts us ds k is labelled held = ap first_names is ∙ ap (λ m. declaration_names m cs) labelled ∙ ap (declaration_names k) held
+
+-- default exports without a name
+
+nameless_split : (t : Tree) (ts us : Forest) (l : Label) → us ≡ t ⊳ ts → label_of t ≡ l → any_nameless us ≡ (is_nameless l || any_nameless ts)
+nameless_split (node l ss cs) ts us k is labelled = ap any_nameless is ∙ ap (λ m. is_nameless m || any_nameless ts) labelled
+
+pub nameless_here : (t : Tree) (ts us : Forest) (l : Label) (g : Bool) → us ≡ t ⊳ ts → label_of t ≡ l → is_nameless l ≡ true → any_nameless us ≡ g → true ≡ g
+nameless_here t ts us l g is labelled found h = sym (nameless_split t ts us l is labelled ∙ ap (λ b. b || any_nameless ts) found) ∙ h
+
+pub nameless_behind : (t : Tree) (ts us : Forest) (l : Label) (g : Bool) → us ≡ t ⊳ ts → label_of t ≡ l → is_nameless l ≡ false → any_nameless us ≡ g → any_nameless ts ≡ g
+nameless_behind t ts us l g is labelled none h = sym (nameless_split t ts us l is labelled ∙ ap (λ b. b || any_nameless ts) none) ∙ h
+
+pub nameless_ends : (us : Forest) (g : Bool) → us ≡ ε → any_nameless us ≡ g → false ≡ g
+nameless_ends us g is h = sym (ap any_nameless is) ∙ h

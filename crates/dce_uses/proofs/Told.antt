@@ -1,0 +1,123 @@
+-- What a table tells at the end.
+use Rattle.std.proofs.Common.{◌≡◌, ℕ, Bool, true, false, not, ◌||◌, ◌&&◌, List, [], ◌∷◌, ◌++◌, Option, Some, None, position, refl, sym, ap, ap₂, ◌∙◌}
+use Rattle.std.specs.Prelude.{option_map, unwrap_or}
+use Rattle.std.proofs.lemmas.Bool.{or_from}
+use Rattle.swc_ast.specs.Tree as tree
+use Rattle.swc_ast.specs.declared.Span.{Span}
+use Rattle.swc_ast.specs.Tree.{Text, Name, Label, same_name, Tree, node, Forest, ε, ◌⊳◌}
+use Rattle.swc_ast.specs.Scope.{has_name, default_name, declarator_name, declarator_names}
+use Rattle.swc_ast.specs.Run.{own_texts, specifier_exports, item_exports, exported}
+use Rattle.swc_ast.specs.Reach.{is_exported}
+use Rattle.swc_static.proofs.Names.{has_name_append}
+use Rattle.swc_names.specs.Names.{mentioned, distinct}
+use Rattle.dce_rules.specs.Uses.{is_argument, seen_by_eval, is_export_of, is_used_unnamed}
+use Rattle.dce_uses.specs.declared.listed.Part.TheVariants as part
+use Rattle.dce_uses.specs.declared.tally.Fact.{Fact}
+use Rattle.dce_uses.specs.declared.tally.Fact.TheVariants as fact
+use Rattle.dce_uses.specs.declared.table.Table.{Table}
+use Rattle.dce_uses.specs.declared.uses.Uses.{Uses}
+use Rattle.dce_uses.specs.Noted.{noted, at_top}
+use Rattle.dce_uses.specs.Listed.{listed}
+use Rattle.dce_uses.specs.Exports.{first_names, item_names, exported_names, is_nameless, any_nameless}
+use Rattle.dce_uses.specs.Tables.{Notes, Tells, fact_at, fact_of, is_fact, is_default, is_hidden}
+use Rattle.dce_uses.proofs.Adding.{next, or_false, or_true, or_grouped, or_swap, and_false}
+use Rattle.dce_uses.proofs.Counting.{alone}
+use Rattle.dce_uses.proofs.Numbering.{unnumbered}
+use Rattle.dce_uses.proofs.Telling.{reads, declarations, namings, hidings}
+use Rattle.dce_uses.proofs.Absent.{absent, exports_absent, once_each}
+
+-- what is exported
+
+own_exported : (x : Name) (ns : List Name) → is_exported x (own_texts ns) ≡ has_name x ns
+own_exported x [] = refl
+own_exported x (y ∷ ys) = ap (λ b. same_name x y || b) (own_exported x ys)
+
+listed_declarators : (ds : Forest) → listed part.Declarators ds ≡ declarator_names ds
+listed_declarators ε = refl
+listed_declarators (node l ss cs ⊳ ts) = ap (λ xs. declarator_name l ++ xs) (listed_declarators ts)
+
+exported_append : (x : Name) (ps qs : List (Text × Name)) → is_exported x (ps ++ qs) ≡ (is_exported x ps || is_exported x qs)
+exported_append x [] qs = refl
+exported_append x (p ∷ ps) qs = ap (λ b. same_name x p.1 || b) (exported_append x ps qs) ∙ sym (or_grouped (same_name x p.1) (is_exported x ps) (is_exported x qs))
+
+specifiers_exported : (x : Name) (cs : Forest) → is_exported x (specifier_exports cs) ≡ has_name x (listed part.Specifiers cs)
+specifiers_exported x ε = refl
+specifiers_exported x (node (tree.ExportSpecifier y o) ss cs ⊳ ts) = ap (λ b. same_name x y || b) (specifiers_exported x ts)
+specifiers_exported x (node l ss cs ⊳ ts) = specifiers_exported x ts
+
+first_exported : (x : Name) (cs : Forest) → is_exported x (item_exports tree.ExportDecl cs) ≡ has_name x (first_names cs)
+first_exported x ε = refl
+first_exported x (node (tree.VarDecl kind) ss ds ⊳ ts) = own_exported x (declarator_names ds) ∙ sym (ap (has_name x) (listed_declarators ds))
+first_exported x (node (tree.FnDecl f) ss cs ⊳ ts) = refl
+first_exported x (node l ss cs ⊳ ts) = refl
+
+item_exported : (x : Name) (l : Label) (cs : Forest) → is_exported x (item_exports l cs) ≡ (has_name x (item_names l cs) || (is_nameless l && same_name x default_name))
+item_exported x tree.ExportDecl cs = first_exported x cs ∙ sym (or_false (has_name x (first_names cs)))
+item_exported x tree.ExportNamed cs = specifiers_exported x cs ∙ sym (or_false (has_name x (listed part.Specifiers cs)))
+item_exported x (tree.ExportDefaultFn None) cs = or_false (same_name x default_name)
+item_exported x (tree.ExportDefaultFn (Some f)) cs = sym (or_false (same_name x f || false))
+item_exported x tree.ExportDefaultExpr cs = or_false (same_name x default_name)
+item_exported x l cs = refl
+
+spread : (a b c d e : Bool) → ((a || (b && e)) || (c || (d && e))) ≡ ((a || c) || ((b || d) && e))
+spread true b c d e = refl
+spread false b true d e = or_true (b && e)
+spread false true false d true = refl
+spread false true false d false = and_false d
+spread false false false d e = refl
+
+pub exported_as : (x : Name) (ts : Forest) → is_exported x (exported ts) ≡ (has_name x (exported_names ts) || (any_nameless ts && same_name x default_name))
+exported_as x ε = refl
+exported_as x (node l ss cs ⊳ ts) =
+    exported_append x (item_exports l cs) (exported ts) ∙ ap₂ (λ a b. a || b) (item_exported x l cs) (exported_as x ts)
+    ∙ spread (has_name x (item_names l cs)) (is_nameless l) (has_name x (exported_names ts)) (any_nameless ts) (same_name x default_name)
+    ∙ ap (λ b. b || ((is_nameless l || any_nameless ts) && same_name x default_name)) (sym (has_name_append x (item_names l cs) (exported_names ts)))
+
+-- what is known of each name
+
+pub known : (u w : Table) (names : List Name) (more : Fact → Name → Bool) → ((f : Fact) (x : Name) → fact_at u f x ≡ option_map (λ n. false) (position (same_name x) names)) → Notes u w more → ((f : Fact) (x : Name) → has_name x names ≡ false → more f x ≡ false) → (f : Fact) (x : Name) → fact_of w f x ≡ more f x
+known u w names more empty notes none f x = by (position (same_name x) names) refl
+  where
+    by : (o : Option ℕ) → position (same_name x) names ≡ o → fact_of w f x ≡ more f x
+    by (Some n) is = ap (λ a. unwrap_or a false) (notes f x ∙ ap (option_map (λ b. b || more f x)) (empty f x ∙ ap (option_map (λ n. false)) is))
+    by None is = ap (λ a. unwrap_or a false) (notes f x ∙ ap (option_map (λ b. b || more f x)) (empty f x ∙ ap (option_map (λ n. false)) is)) ∙ sym (none f x (unnumbered x names is))
+
+-- a table tells what a tree says
+
+plus_nothing : (a b : Bool) → (a || (false && b)) ≡ a
+plus_nothing a b = or_false a
+
+hidden_as : (h e d s : Bool) → s ≡ (e || d) → ((h || (true && e)) || d) ≡ (s || h)
+hidden_as h e d s is = or_grouped h e d ∙ ap (λ b. h || b) (sym is) ∙ or_swap h s
+
+pub tells : (u : Uses) (t : Tree) (exports : Name → Bool) → ((f : Fact) (x : Name) → fact_of u.table f x ≡ (noted f x at_top t || (is_fact fact.Hidden f && exports x))) → ((x : Name) → is_export_of x t ≡ (exports x || is_default u x)) → Tells u t
+tells u t exports facts said = record {
+  free = λ x. ap₂ (λ a b. not (a || b)) (ap₂ (λ a b. a || b) (facts fact.Used x ∙ or_false _) (facts fact.Written x ∙ or_false _) ∙ namings x at_top t) (hidden x);
+  unread = λ x. ap₂ (λ a b. a && b) (facts fact.Declared x ∙ or_false _ ∙ declarations x at_top t) (ap₂ (λ a b. not (a || b)) (facts fact.Read x ∙ or_false _ ∙ reads x at_top t) (hidden x));
+  held = λ x. facts fact.Held x ∙ or_false _;
+  abroad = λ x. facts fact.Abroad x ∙ or_false _;
+}
+  where
+    hidden : (x : Name) → is_hidden u x ≡ is_used_unnamed x t
+    hidden x = ap (λ b. b || is_default u x) (facts fact.Hidden x ∙ ap (λ b. b || (true && exports x)) (hidings x at_top t refl)) ∙ hidden_as (is_argument x t || seen_by_eval x t) (exports x) (is_default u x) (is_export_of x t) (said x)
+
+-- a module
+
+pub module_told : (u : Uses) (start counted : Table) (names : List Name) (ss : List Span) (items : Forest) → names ≡ distinct (mentioned items) → ((f : Fact) (x : Name) → fact_at start f x ≡ option_map (λ n. false) (position (same_name x) names)) → Notes start counted (λ f x. noted f x at_top (node tree.Module ss items)) → Notes counted u.table (alone fact.Hidden (exported_names items)) → u.exports_default ≡ any_nameless items → Tells u (node tree.Module ss items)
+module_told u start counted names ss items numbered empty counts exports unnamed =
+    let t = node tree.Module ss items in
+    tells u t (λ x. has_name x (exported_names items))
+    (known start u.table names (λ f x. noted f x at_top t || alone fact.Hidden (exported_names items) f x) empty (next start counted u.table (λ f x. noted f x at_top t) (alone fact.Hidden (exported_names items)) counts exports)
+    (λ f x none. let away = sym (once_each x (mentioned items)) ∙ sym (ap (has_name x) numbered) ∙ none in or_from (noted f x at_top t) (alone fact.Hidden (exported_names items) f x) (absent f x at_top t away) (ap (λ b. is_fact fact.Hidden f && b) (exports_absent x items away) ∙ and_false (is_fact fact.Hidden f))))
+    (λ x. exported_as x items ∙ ap (λ b. has_name x (exported_names items) || (b && same_name x default_name)) (sym unnamed))
+
+-- a script
+
+pub script_told : (u : Uses) (start : Table) (names : List Name) (ss : List Span) (stmts : Forest) → names ≡ distinct (mentioned stmts) → ((f : Fact) (x : Name) → fact_at start f x ≡ option_map (λ n. false) (position (same_name x) names)) → Notes start u.table (λ f x. noted f x at_top (node tree.Script ss stmts)) → u.exports_default ≡ false → Tells u (node tree.Script ss stmts)
+script_told u start names ss stmts numbered empty counts unnamed =
+    let t = node tree.Script ss stmts in
+    tells u t (λ x. false)
+    (λ f x. known start u.table names (λ f x. noted f x at_top t) empty counts
+    (λ f x none. absent f x at_top t (sym (once_each x (mentioned stmts)) ∙ sym (ap (has_name x) numbered) ∙ none)) f x
+    ∙ sym (ap (λ b. noted f x at_top t || b) (and_false (is_fact fact.Hidden f)) ∙ or_false (noted f x at_top t)))
+    (λ x. sym (ap (λ b. b && same_name x default_name) unnamed))

@@ -1,0 +1,18 @@
+-- Nodes that export nothing, by what they are not.
+use Rattle.std.proofs.Common.{◌≡◌, [], refl}
+use Rattle.swc_ast.specs.Tree.{Forest}
+use Rattle.swc_visit.specs.Kinds.{kind_label}
+use Rattle.swc_visit.specs.declared.kind.Kind.{Kind}
+use Rattle.swc_visit.specs.declared.kind.Kind.TheVariants as kind
+use Rattle.dce_uses.specs.Exports.{declaration_names, item_names}
+
+pub no_item : (k : Kind) (cs : Forest) → (k ≡ kind.ExportDecl → ⊥) → (k ≡ kind.ExportNamed → ⊥) → ((n : _) → k ≡ kind.ExportDefaultFn n → ⊥) → item_names (kind_label k) cs ≡ []
+no_item kind.ExportDecl cs a b c = absurd (a refl)
+no_item kind.ExportNamed cs a b c = absurd (b refl)
+no_item (kind.ExportDefaultFn n) cs a b c = absurd (c n refl)
+no_item k cs a b c = refl
+
+pub no_declaration : (k : Kind) (cs : Forest) → ((n : _) → k ≡ kind.VarDecl n → ⊥) → ((n : _) → k ≡ kind.FnDecl n → ⊥) → declaration_names (kind_label k) cs ≡ []
+no_declaration (kind.VarDecl n) cs a b = absurd (a n refl)
+no_declaration (kind.FnDecl n) cs a b = absurd (b n refl)
+no_declaration k cs a b = refl

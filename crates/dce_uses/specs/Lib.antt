@@ -1,0 +1,4 @@
+pub mod Noted
+pub mod Listed
+pub mod Exports
+pub mod Tables

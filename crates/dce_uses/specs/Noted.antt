@@ -1,0 +1,120 @@
+-- What one walk over a tree notes of a name, fact by fact.
+use Rattle.std.specs.Prelude.{Bool, true, false, not, ◌&&◌, ◌||◌, if◌then◌else◌, List, [], ◌∷◌}
+use Rattle.swc_ast.specs.declared.AssignOp.{AssignOp}
+use Rattle.swc_ast.specs.declared.AssignOp.TheVariants.{Assign as Plain}
+use Rattle.swc_ast.specs.declared.VarDeclKind.TheVariants.{Var}
+use Rattle.swc_ast.specs.Tree.{Name, Label, Assign, Update, Params, Block, Declarator, FnDecl, ExportDefaultFn, Tree, node, Forest, ε, ◌⊳◌}
+use Rattle.swc_ast.specs.Scope.{is_function, has_name, option_name, param_names}
+use Rattle.swc_ast.specs.Resolved.{params_of}
+use Rattle.swc_ast.specs.Reach.{named_by}
+use Rattle.dce_rules.specs.Uses.{read_by, has_arguments, any_arguments, any_eval, declared_by_node}
+use Rattle.dce_uses.specs.declared.place.Evals.{Evals}
+use Rattle.dce_uses.specs.declared.place.Evals.TheVariants as evals
+use Rattle.dce_uses.specs.declared.place.Place.{Place}
+use Rattle.dce_uses.specs.declared.tally.Fact.{Fact}
+use Rattle.dce_uses.specs.declared.tally.Fact.TheVariants as fact
+
+-- the name that a node itself writes: by an assignment or an update
+abbrev pub written_by : Label → List Name
+written_by (Assign op x) = x ∷ []
+written_by (Update op prefix x) = x ∷ []
+written_by _ = []
+
+-- the name of a function that a node declares
+abbrev pub function_name : Label → List Name
+function_name (FnDecl x) = x ∷ []
+function_name (ExportDefaultFn o) = option_name o
+function_name _ = []
+
+-- the declaration of a function, that of a default export aside
+abbrev pub is_declaration : Label → Bool
+is_declaration (FnDecl x) = true
+is_declaration _ = false
+
+abbrev pub is_plain : AssignOp → Bool
+is_plain Plain = true
+is_plain op = false
+
+abbrev pub is_params : Label → Bool
+is_params Params = true
+is_params _ = false
+
+-- a block, or a function, whose body is one
+abbrev pub is_block : Label → Bool
+is_block Block = true
+is_block l = is_function l
+
+-- whether a declaration stands below the top level: functions and `var` in a function, others in a block
+abbrev pub lets_go : Place → Label → Bool
+lets_go p (FnDecl x) = p.in_function
+lets_go p (Declarator Var x) = p.in_function
+lets_go p l = p.in_block
+
+-- what is known of calls of `eval` among the children of a node
+abbrev pub evals_below : Label → Forest → Evals → Evals
+evals_below l cs evals.Outside = if is_function l then (if any_eval cs then evals.Called else evals.Free) else evals.Outside
+evals_below l cs e = e
+
+-- whether a function round a place calls `eval`
+abbrev pub is_called : Evals → Bool
+is_called evals.Called = true
+is_called _ = false
+
+-- the place of a node's children
+abbrev pub below : Place → Label → Forest → Place
+below p l cs = record { in_function = has_arguments l || p.in_function; in_block = is_block l || p.in_block; in_declaration = is_declaration l || p.in_declaration; evals = evals_below l cs p.evals }
+
+-- the place of a whole module
+abbrev pub at_top : Place
+at_top = record { in_function = false; in_block = false; in_declaration = false; evals = evals.Outside }
+
+-- names that count only where something holds
+abbrev pub when : Bool → List Name → List Name
+when b xs = if b then xs else []
+
+-- what a node says of a name by reading or writing it
+abbrev pub by_naming : Fact → Name → Place → Label → Bool
+by_naming fact.Used x p l = has_name x (read_by l)
+by_naming fact.Read x p l = has_name x (read_by l)
+by_naming fact.Written x p l = has_name x (written_by l)
+by_naming fact.Abroad x p l = has_name x (when (not p.in_declaration) (named_by l))
+by_naming _ x p l = false
+
+-- what a node says of a name by declaring it
+abbrev pub by_declaring : Fact → Name → Place → Label → Bool
+by_declaring fact.Declared x p l = has_name x (declared_by_node l)
+by_declaring fact.Held x p l = has_name x (when (not (lets_go p l)) (declared_by_node l))
+by_declaring fact.Hidden x p l = has_name x (when (is_called p.evals) (declared_by_node l))
+by_declaring _ x p l = false
+
+-- whether a name is a parameter of a function that names `arguments`
+abbrev pub is_own_argument : Name → Label → Forest → Bool
+is_own_argument x l cs = has_arguments l && (any_arguments cs && has_name x (param_names (params_of cs)))
+
+-- what a function says of its parameters by naming `arguments`
+abbrev pub by_arguments : Fact → Name → Label → Forest → Bool
+by_arguments fact.Hidden x l cs = is_own_argument x l cs
+by_arguments _ x l cs = false
+
+-- what a node says by itself
+abbrev pub own : Fact → Name → Place → Label → Forest → Bool
+own f x p l cs = by_naming f x p l || (by_declaring f x p l || by_arguments f x l cs)
+
+-- uses and writes of a function's own name don't count inside its declaration
+abbrev pub is_counted : Fact → Bool
+is_counted fact.Used = true
+is_counted fact.Written = true
+is_counted _ = false
+
+abbrev mutual
+  -- what a tree says of a name
+  pub noted : Fact → Name → Place → Tree → Bool
+  noted f x p (node l ss cs) = if is_counted f && has_name x (function_name l) then false else (own f x p l cs || noted_among f x (below p l cs) cs)
+
+  pub noted_among : Fact → Name → Place → Forest → Bool
+  noted_among f x p ε = false
+  noted_among f x p (t ⊳ ts) = noted f x p t || noted_among f x p ts
+
+-- the same of a node by its parts
+abbrev pub noted_at : Fact → Name → Place → Label → Forest → Bool
+noted_at f x p l cs = if is_counted f && has_name x (function_name l) then false else (own f x p l cs || noted_among f x (below p l cs) cs)

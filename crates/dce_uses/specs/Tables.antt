@@ -1,0 +1,78 @@
+-- What a table tells of names.
+use Rattle.std.specs.Prelude.{Bool, true, false, not, ◌≡◌, ◌==◌, ◌&&◌, ◌||◌, if◌then◌else◌, List, [], Option, option_map, option_and_then, position, slice_get, unwrap_or}
+use Rattle.swc_ast.specs.Tree.{Name, same_name, Tree}
+use Rattle.swc_ast.specs.Scope.{has_name, default_name}
+use Rattle.dce_rules.specs.Uses.{free_to_go, is_unread}
+use Rattle.dce_uses.specs.declared.tally.Fact.{Fact}
+use Rattle.dce_uses.specs.declared.tally.Fact.TheVariants as fact
+use Rattle.dce_uses.specs.declared.tally.Tally.{Tally}
+use Rattle.dce_uses.specs.declared.table.Table.{Table}
+use Rattle.dce_uses.specs.declared.uses.Uses.{Uses}
+use Rattle.dce_uses.specs.Noted.{noted, at_top, is_counted}
+
+-- a fact by itself
+abbrev pub is_fact : Fact → Fact → Bool
+is_fact fact.Used fact.Used = true
+is_fact fact.Read fact.Read = true
+is_fact fact.Written fact.Written = true
+is_fact fact.Abroad fact.Abroad = true
+is_fact fact.Declared fact.Declared = true
+is_fact fact.Held fact.Held = true
+is_fact fact.Hidden fact.Hidden = true
+is_fact _ _ = false
+
+-- whether a fact was noted
+abbrev pub holds : Tally → Fact → Bool
+holds t fact.Used = not (t.uses == 0)
+holds t fact.Written = not (t.writes == 0)
+holds t fact.Read = t.is_read
+holds t fact.Abroad = t.is_abroad
+holds t fact.Declared = t.is_declared
+holds t fact.Held = t.is_held
+holds t fact.Hidden = t.is_hidden
+
+-- what was noted of a name, if it has a number
+abbrev pub tally_of : Table → Name → Option Tally
+tally_of u x = option_and_then (slice_get u.tallies.items) (position (same_name x) u.names)
+
+abbrev pub fact_at : Table → Fact → Name → Option Bool
+fact_at u f x = option_map (λ t. holds t f) (tally_of u x)
+
+-- A table becomes another by noting facts.
+abbrev pub Notes : Table → Table → (Fact → Name → Bool) → Type 0
+Notes u v more = (f : Fact) (x : Name) → fact_at v f x ≡ option_map (λ b. b || more f x) (fact_at u f x)
+
+-- what was noted of a name, nothing where it has no number
+abbrev pub fact_of : Table → Fact → Name → Bool
+fact_of u f x = unwrap_or (fact_at u f x) false
+
+-- the name of a default export that has no other
+abbrev pub is_default : Uses → Name → Bool
+is_default u x = u.exports_default && same_name x default_name
+
+-- whether a name is used without being named
+abbrev pub is_hidden : Uses → Name → Bool
+is_hidden u x = fact_of u.table fact.Hidden x || is_default u x
+
+-- the names that are neither used nor written
+abbrev pub is_free : Uses → Name → Bool
+is_free u x = not ((fact_of u.table fact.Used x || fact_of u.table fact.Written x) || is_hidden u x)
+
+-- the names that are declared and never read
+abbrev pub is_unused : Uses → Name → Bool
+is_unused u x = fact_of u.table fact.Declared x && not (fact_of u.table fact.Read x || is_hidden u x)
+
+-- A table tells of each name what a tree says of it.
+pub record Tells (u : Uses) (t : Tree) : Type 0 where
+  pub free : (x : Name) → is_free u x ≡ free_to_go [] t x
+  pub unread : (x : Name) → is_unused u x ≡ is_unread [] t x
+  pub held : (x : Name) → fact_of u.table fact.Held x ≡ noted fact.Held x at_top t
+  pub abroad : (x : Name) → fact_of u.table fact.Abroad x ≡ noted fact.Abroad x at_top t
+
+-- A table becomes another where the counters of some names are those of before.
+abbrev pub Restores : Table → Table → List Name → Option Tally → Type 0
+Restores u v xs before = (f : Fact) (x : Name) → fact_at v f x ≡ (if is_counted f && has_name x xs then option_map (λ b. unwrap_or (option_map (λ t. holds t f) before) b) (fact_at u f x) else fact_at u f x)
+
+-- what was noted of the names in a list, which are one at most
+abbrev pub IsBefore : Table → List Name → Option Tally → Type 0
+IsBefore u xs before = (x : Name) → has_name x xs ≡ true → before ≡ tally_of u x

@@ -1,0 +1,83 @@
+//! The names that a module exports.
+ghost use Rattle.std.specs.Prelude.{◌≡◌, ◌&&◌};
+ghost use Rattle.swc_ast.specs.Scope.{has_name};
+ghost use Rattle.swc_visit.specs.Kinds.{kind_label};
+ghost use Rattle.swc_visit.specs.Nodes.{children_forest};
+ghost use Rattle.dce_uses.specs.Exports as exports;
+ghost use Rattle.dce_uses.specs.Tables.{Notes, is_fact};
+ghost use Rattle.dce_uses.specs.declared.tally.Fact.TheVariants as fact;
+
+use crate::listed::Part;
+use crate::table::Table;
+use crate::tally::Fact;
+use swc_visit::{Children, Kind};
+
+/// Whether a node is a default export without a name.
+fn is_nameless(kind: Kind<'_>) -> bool
+    ensures { result ≡ exports.is_nameless (kind_label kind.entry) }
+{
+    match kind {
+        Kind::ExportDefaultFn(name) => match name {
+            Some(_) => false,
+            None => true,
+        },
+        Kind::ExportDefaultExpr => true,
+        _ => false,
+    }
+}
+
+/// Whether a default export among items has no name.
+#[tactic(auto, using(swc_visit::proofs::Caps::rest_falls, crate::proofs::Lists::nameless_here, crate::proofs::Lists::nameless_behind, crate::proofs::Lists::nameless_ends))]
+pub(crate) fn any_nameless(items: Children<'_>) -> bool
+    ensures { result ≡ exports.any_nameless (children_forest items.entry) }
+{
+    let mut left = items;
+    while let Some((item, rest)) = left.next() {
+        if is_nameless(item.open().kind) {
+            return true;
+        }
+        left = rest;
+    }
+    false
+}
+
+impl Table {
+    /// Notes the names that items export: they are used.
+    pub(crate) fn note_exports(&mut self, items: Children<'_>)
+        ensures { Notes self.old self.new (λ f x. is_fact fact.Hidden f && has_name x (exports.exported_names (children_forest items.entry))) }
+    {
+        let mut left = items;
+        while let Some((item, rest)) = left.next() {
+            let opened = item.open();
+            self.note_exported(opened.kind, opened.children);
+            left = rest;
+        }
+    }
+
+    /// Notes the names that an item exports.
+    fn note_exported(&mut self, kind: Kind<'_>, children: Children<'_>)
+        ensures { Notes self.old self.new (λ f x. is_fact fact.Hidden f && has_name x (exports.item_names (kind_label kind.entry) (children_forest children.entry))) }
+    {
+        match kind {
+            Kind::ExportDecl => self.note_declaration(children),
+            Kind::ExportNamed => self.note_listed(children, Part::Specifiers),
+            Kind::ExportDefaultFn(name) => self.add(name.as_ref(), Fact::Hidden),
+            _ => {}
+        }
+    }
+
+    /// Notes the names of an exported declaration, the first of the children.
+    fn note_declaration(&mut self, children: Children<'_>)
+        ensures { Notes self.old self.new (λ f x. is_fact fact.Hidden f && has_name x (exports.first_names (children_forest children.entry))) }
+    {
+        let Some((declaration, _)) = children.next() else {
+            return;
+        };
+        let opened = declaration.open();
+        match opened.kind {
+            Kind::VarDecl(_) => self.note_listed(opened.children, Part::Declarators),
+            Kind::FnDecl(name) => self.add(Some(name), Fact::Hidden),
+            _ => {}
+        }
+    }
+}

@@ -1,0 +1,166 @@
+//! What a node says of names.
+ghost use Rattle.std.specs.Prelude.{◌≡◌};
+ghost use Rattle.swc_ast.specs.Reach.{named_by};
+ghost use Rattle.swc_ast.specs.Scope.{is_function as is_function_label};
+ghost use Rattle.swc_visit.specs.Kinds.{kind_label};
+ghost use Rattle.swc_names.specs.Ids.{optional};
+ghost use Rattle.dce_rules.specs.Uses as uses;
+ghost use Rattle.dce_uses.specs.Noted as noted;
+
+use swc_ast::{AssignOp, Ident};
+use swc_visit::Kind;
+
+fn is_plain(op: AssignOp) -> bool
+    ensures { result ≡ noted.is_plain op }
+{
+    match op {
+        AssignOp::Assign => true,
+        _ => false,
+    }
+}
+
+/// The name that a node itself reads or exports.
+#[tactic(auto, using(crate::proofs::Said::plain_target, crate::proofs::Said::read_target))]
+pub(crate) fn read_name<'a>(kind: Kind<'a>) -> Option<&'a Ident>
+    ensures { optional result ≡ uses.read_by (kind_label kind.entry) }
+{
+    match kind {
+        Kind::Read(name)
+        | Kind::CallEval(name)
+        | Kind::Shorthand(name)
+        | Kind::TypeOfName(name)
+        | Kind::Update(_, _, name) => Some(name),
+        Kind::Assign(op, name) => { if is_plain(op) { None } else { Some(name) } }
+        Kind::ExportSpecifier(n) => Some(&n.orig),
+        _ => None,
+    }
+}
+
+/// The name that a node itself writes.
+pub(crate) fn written_name<'a>(kind: Kind<'a>) -> Option<&'a Ident>
+    ensures { optional result ≡ noted.written_by (kind_label kind.entry) }
+{
+    match kind {
+        Kind::Assign(_, name) | Kind::Update(_, _, name) => Some(name),
+        _ => None,
+    }
+}
+
+/// The name that a node itself reads, writes or exports.
+pub(crate) fn named<'a>(kind: Kind<'a>) -> Option<&'a Ident>
+    ensures { optional result ≡ named_by (kind_label kind.entry) }
+{
+    match kind {
+        Kind::Read(name)
+        | Kind::CallEval(name)
+        | Kind::Shorthand(name)
+        | Kind::TypeOfName(name)
+        | Kind::Assign(_, name)
+        | Kind::Update(_, _, name) => Some(name),
+        Kind::ExportSpecifier(n) => Some(&n.orig),
+        _ => None,
+    }
+}
+
+/// The name that a node itself declares.
+pub(crate) fn declared_name<'a>(kind: Kind<'a>) -> Option<&'a Ident>
+    ensures { optional result ≡ uses.declared_by_node (kind_label kind.entry) }
+{
+    match kind {
+        Kind::Declarator(_, name)
+        | Kind::Param(name)
+        | Kind::FnDecl(name)
+        | Kind::ImportDefault(name)
+        | Kind::ImportStar(name) => Some(name),
+        Kind::Fn(name) | Kind::ExportDefaultFn(name) => name.as_ref(),
+        Kind::ImportNamed(n) => Some(&n.local),
+        Kind::Try(handler) => match handler {
+            Some(clause) => clause.param.as_ref(),
+            None => None,
+        },
+        _ => None,
+    }
+}
+
+/// The name of a function that a node declares.
+pub(crate) fn function_name<'a>(kind: Kind<'a>) -> Option<&'a Ident>
+    ensures { optional result ≡ noted.function_name (kind_label kind.entry) }
+{
+    match kind {
+        Kind::FnDecl(name) => Some(name),
+        Kind::ExportDefaultFn(name) => name.as_ref(),
+        _ => None,
+    }
+}
+
+/// Whether a node is a function or an arrow.
+pub(crate) fn is_function(kind: Kind<'_>) -> bool
+    ensures { result ≡ is_function_label (kind_label kind.entry) }
+{
+    match kind {
+        Kind::Fn(_) | Kind::Arrow | Kind::Method | Kind::FnDecl(_) | Kind::ExportDefaultFn(_) => {
+            true
+        }
+        _ => false,
+    }
+}
+
+/// Whether a node is a function that has its own `arguments`.
+pub(crate) fn has_arguments(kind: Kind<'_>) -> bool
+    ensures { result ≡ uses.has_arguments (kind_label kind.entry) }
+{
+    match kind {
+        Kind::Fn(_) | Kind::Method | Kind::FnDecl(_) | Kind::ExportDefaultFn(_) => true,
+        _ => false,
+    }
+}
+
+/// Whether a node is the declaration of a function.
+pub(crate) fn is_declaration(kind: Kind<'_>) -> bool
+    ensures { result ≡ noted.is_declaration (kind_label kind.entry) }
+{
+    match kind {
+        Kind::FnDecl(_) => true,
+        _ => false,
+    }
+}
+
+/// Whether a node is a direct call of `eval`.
+pub(crate) fn is_eval(kind: Kind<'_>) -> bool
+    ensures { result ≡ uses.is_eval (kind_label kind.entry) }
+{
+    match kind {
+        Kind::CallEval(_) => true,
+        _ => false,
+    }
+}
+
+/// Whether a node names `arguments`.
+pub(crate) fn is_arguments(kind: Kind<'_>) -> bool
+    ensures { result ≡ uses.is_arguments (named_by (kind_label kind.entry)) }
+{
+    match named(kind) {
+        Some(name) => name.sym.as_str() == "arguments",
+        None => false,
+    }
+}
+
+/// Whether a node is a block or the body of a function.
+pub(crate) fn is_block(kind: Kind<'_>) -> bool
+    ensures { result ≡ noted.is_block (kind_label kind.entry) }
+{
+    match kind {
+        Kind::Block => true,
+        _ => is_function(kind),
+    }
+}
+
+/// Whether a node holds the parameters of a function.
+pub(crate) fn is_params(kind: Kind<'_>) -> bool
+    ensures { result ≡ noted.is_params (kind_label kind.entry) }
+{
+    match kind {
+        Kind::Params => true,
+        _ => false,
+    }
+}

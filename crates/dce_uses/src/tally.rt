@@ -1,0 +1,95 @@
+//! What is noted of one name.
+ghost use Rattle.std.specs.Prelude.{◌≡◌, ◌||◌, false, if◌then◌else◌};
+ghost use Rattle.dce_uses.specs.Tables.{holds, is_fact};
+ghost use Rattle.dce_uses.specs.Noted.{is_counted};
+ghost use Rattle.dce_uses.specs.declared.tally.Fact as facts;
+
+/// A fact that a tree may tell of a name.
+#[derive(Clone, Copy)]
+pub(crate) enum Fact {
+    /// It is read outside the declarations of functions of that name.
+    Used,
+    /// It is written there.
+    Written,
+    /// It is read somewhere.
+    Read,
+    /// It occurs outside all declarations of functions.
+    Abroad,
+    /// It is declared.
+    Declared,
+    /// It is declared at the top level.
+    Held,
+    /// It is used without being named: exported, reached through `arguments`, or seen by `eval`.
+    Hidden,
+}
+
+/// What was noted of a name. The counters stay at the greatest number: all that is asked is whether one is 0.
+#[derive(Clone, Copy)]
+pub(crate) struct Tally {
+    pub(crate) uses: u32,
+    pub(crate) writes: u32,
+    pub(crate) is_read: bool,
+    pub(crate) is_abroad: bool,
+    pub(crate) is_declared: bool,
+    pub(crate) is_held: bool,
+    pub(crate) is_hidden: bool,
+}
+
+impl Tally {
+    /// Nothing was noted.
+    pub(crate) fn empty() -> Tally
+        ensures { (f : facts.Fact) → holds result f ≡ false }
+    {
+        Tally {
+            uses: 0,
+            writes: 0,
+            is_read: false,
+            is_abroad: false,
+            is_declared: false,
+            is_held: false,
+            is_hidden: false,
+        }
+    }
+
+    /// Whether a fact was noted.
+    pub(crate) fn has(self, fact: Fact) -> bool
+        ensures { result ≡ holds self fact }
+    {
+        match fact {
+            Fact::Used => self.uses != 0,
+            Fact::Written => self.writes != 0,
+            Fact::Read => self.is_read,
+            Fact::Abroad => self.is_abroad,
+            Fact::Declared => self.is_declared,
+            Fact::Held => self.is_held,
+            Fact::Hidden => self.is_hidden,
+        }
+    }
+
+    /// The same with one fact more.
+    pub(crate) fn with(self, fact: Fact) -> Tally
+        ensures { (f : facts.Fact) → holds result f ≡ (holds self f || is_fact fact f) }
+    {
+        let mut tally = self;
+        match fact {
+            Fact::Used => tally.uses = tally.uses.saturating_add(1),
+            Fact::Written => tally.writes = tally.writes.saturating_add(1),
+            Fact::Read => tally.is_read = true,
+            Fact::Abroad => tally.is_abroad = true,
+            Fact::Declared => tally.is_declared = true,
+            Fact::Held => tally.is_held = true,
+            Fact::Hidden => tally.is_hidden = true,
+        }
+        tally
+    }
+
+    /// The same with the counters of another.
+    pub(crate) fn counted_as(self, other: Tally) -> Tally
+        ensures { (f : facts.Fact) → holds result f ≡ (if is_counted f then holds other f else holds self f) }
+    {
+        let mut tally = self;
+        tally.uses = other.uses;
+        tally.writes = other.writes;
+        tally
+    }
+}
