@@ -8,7 +8,7 @@ ghost use Rattle.branch_vars.specs.Names.{names_of, optional_name, opened_vars};
 
 use std::alloc::AllocError;
 use swc_ast::{Ident, Stmt, VarDeclKind};
-use swc_visit::{Kind, Node, Opened};
+use swc_visit::{Kind, Opened, open_stmt};
 
 /// The name of a declarator of `var`.
 fn var_name<'a>(kind: Kind<'a>) -> Option<&'a Ident>
@@ -52,5 +52,5 @@ fn add_opened<'a>(names: &mut Vec<&'a Ident>, opened: Opened<'a>) -> Result<(), 
 pub fn add_vars<'a>(names: &mut Vec<&'a Ident>, s: &'a Stmt) -> Result<(), AllocError>
     ensures { OnOk result (names_of names.new.items ≡ names_of names.old.items ++ vars (stmt_tree s.now)) }
 {
-    add_opened(names, Node::Stmt(s).open())
+    add_opened(names, open_stmt(s))
 }

@@ -10,7 +10,7 @@ ghost use Rattle.swc_names.specs.Names.{own_name as label_name, handler_name as 
 use std::alloc::{AllocError, Global};
 use stmt_like::StmtLike;
 use swc_ast::{Ident, VarDeclKind};
-use swc_visit::{Kind, Node, Opened, open_module_decl};
+use swc_visit::{Kind, Opened, open_module_decl, open_stmt};
 
 /// Which names of a tree are asked for.
 #[derive(Clone, Copy)]
@@ -155,7 +155,7 @@ fn open<'a, T: StmtLike>(item: &'a T) -> Opened<'a>
     ensures { Opens (item_tree (T.item item.now)) result }
 {
     if let Some(s) = item.as_stmt() {
-        return Node::Stmt(s).open();
+        return open_stmt(s);
     }
     match item.as_module_decl() {
         Some(n) => open_module_decl(n),

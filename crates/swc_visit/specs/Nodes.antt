@@ -1,5 +1,5 @@
 -- The tree of a node, and the trees of the children that are still to be read.
-use Rattle.std.specs.Prelude.{Bool, true, false, ◌≡◌, Option, Some, None, map, List}
+use Rattle.std.specs.Prelude.{Bool, true, false, ◌≡◌, Option, Some, None, map, drop, List, [], ◌∷◌}
 use Rattle.swc_ast.specs.Tree.{Label, Read, Dot, Index, Tree, node, Forest, ε, ◌⊳◌}
 use Rattle.swc_ast.specs.Parts.{absent, list_trees, ident_tree}
 use Rattle.swc_ast.specs.declared.Span.{Span}
@@ -23,38 +23,45 @@ label_of (node l ss cs) = l
 abbrev pub children_of : Tree → Forest
 children_of (node l ss cs) = cs
 
+-- the tree of the first item, or of a part left out
+abbrev pub head_tree : {A : Type 0} → (A → Tree) → List A → Tree
+head_tree f [] = absent
+head_tree f (x ∷ xs) = f x
+
 abbrev pub node_tree : Node → Tree
 node_tree (a.Module n) = module_tree n.now
 node_tree (a.Script n) = script_tree n.now
-node_tree (a.Item n) = item_tree n.now
-node_tree (a.ImportSpecifier n) = import_specifier_tree n.now
-node_tree (a.ExportSpecifier n) = export_specifier_tree n.now
+node_tree (a.Item xs i) = head_tree item_tree (drop i xs.now.items)
+node_tree (a.ImportSpecifier xs i) = head_tree import_specifier_tree (drop i xs.now.items)
+node_tree (a.ExportSpecifier xs i) = head_tree export_specifier_tree (drop i xs.now.items)
 node_tree (a.Decl n) = decl_tree n.now
 node_tree (a.VarDecl n) = var_tree expr_tree n.now
-node_tree (a.Declarator k n) = declarator_tree expr_tree k n.now
-node_tree (a.Stmt n) = stmt_tree n.now
+node_tree (a.Declarator k xs i) = head_tree (declarator_tree expr_tree k) (drop i xs.now.items)
+node_tree (a.Stmt n) = stmt_tree n.now.value
+node_tree (a.StmtAt xs i) = head_tree stmt_tree (drop i xs.now.items)
 node_tree (a.Block n) = block_tree stmt_tree n.now
-node_tree (a.CaseBody n) = (case_trees n.now).body
-node_tree (a.Expr n) = expr_tree n.now
-node_tree (a.Prop n) = prop_or_spread_tree n.now
+node_tree (a.CaseBody xs i) = head_tree (λ n. (case_trees n).body) (drop i xs.now.items)
+node_tree (a.Expr n) = expr_tree n.now.value
+node_tree (a.ExprAt xs i) = head_tree expr_tree (drop i xs.now.items)
+node_tree (a.Prop xs i) = head_tree prop_or_spread_tree (drop i xs.now.items)
 node_tree (a.Key n) = key_tree expr_tree n.now
-node_tree (a.Params n) = params_tree expr_tree n.now
-node_tree (a.Param n) = param_tree expr_tree n.now
+node_tree (a.Params xs) = params_tree expr_tree xs.now.items
+node_tree (a.Param xs i) = head_tree (param_tree expr_tree) (drop i xs.now.items)
 node_tree (a.Body n) = body_tree stmt_tree n.now
 node_tree a.Absent = absent
 
 abbrev pub list_forest : NodeList → Forest
 list_forest list.Empty = ε
-list_forest (list.ModuleItems xs) = list_trees item_tree xs.now
-list_forest (list.ImportSpecifiers xs) = list_trees import_specifier_tree xs.now
-list_forest (list.ExportSpecifiers xs) = list_trees export_specifier_tree xs.now
-list_forest (list.Declarators k xs) = list_trees (declarator_tree expr_tree k) xs.now
-list_forest (list.Stmts xs) = list_trees stmt_tree xs.now
-list_forest (list.Cases xs) = case_children (map case_trees xs.now)
-list_forest (list.Exprs xs) = list_trees expr_tree xs.now
-list_forest (list.Items xs) = item_trees expr_tree xs.now
-list_forest (list.Props xs) = list_trees prop_or_spread_tree xs.now
-list_forest (list.Params xs) = list_trees (param_tree expr_tree) xs.now
+list_forest (list.ModuleItems xs i) = list_trees item_tree (drop i xs.now.items)
+list_forest (list.ImportSpecifiers xs i) = list_trees import_specifier_tree (drop i xs.now.items)
+list_forest (list.ExportSpecifiers xs i) = list_trees export_specifier_tree (drop i xs.now.items)
+list_forest (list.Declarators k xs i) = list_trees (declarator_tree expr_tree k) (drop i xs.now.items)
+list_forest (list.Stmts xs i) = list_trees stmt_tree (drop i xs.now.items)
+list_forest (list.Cases xs i) = case_children (map case_trees (drop i xs.now.items))
+list_forest (list.Exprs xs i) = list_trees expr_tree (drop i xs.now.items)
+list_forest (list.Items xs i) = item_trees expr_tree (drop i xs.now.items)
+list_forest (list.Props xs i) = list_trees prop_or_spread_tree (drop i xs.now.items)
+list_forest (list.Params xs i) = list_trees (param_tree expr_tree) (drop i xs.now.items)
 
 abbrev pub before : Option Node → Forest → Forest
 before None ts = ts

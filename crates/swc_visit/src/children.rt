@@ -1,5 +1,5 @@
 //! The children of a node, one by one.
-ghost use Rattle.std.specs.Prelude.{◌≡◌};
+ghost use Rattle.std.specs.Prelude.{◌≡◌, [], ◌∷◌, drop, IfSome, IsNone};
 ghost use Rattle.swc_ast.specs.Tree.{ε, ◌⊳◌};
 ghost use Rattle.swc_ast.specs.Parts.{tree_or_absent};
 ghost use Rattle.swc_ast.specs.Expressions.{item_trees};
@@ -12,21 +12,21 @@ use swc_ast::{
     SwitchCase, VarDeclKind, VarDeclarator,
 };
 
-/// Children that stand in a list.
+/// Children that stand in a list, from a place on.
 #[derive(Clone, Copy)]
 pub enum NodeList<'a> {
     Empty,
-    ModuleItems(&'a [ModuleItem]),
-    ImportSpecifiers(&'a [ImportSpecifier]),
-    ExportSpecifiers(&'a [ExportNamedSpecifier]),
-    Declarators(VarDeclKind, &'a [VarDeclarator]),
-    Stmts(&'a [Stmt]),
-    Cases(&'a [SwitchCase]),
-    Exprs(&'a [Expr]),
+    ModuleItems(&'a Vec<ModuleItem>, usize),
+    ImportSpecifiers(&'a Vec<ImportSpecifier>, usize),
+    ExportSpecifiers(&'a Vec<ExportNamedSpecifier>, usize),
+    Declarators(VarDeclKind, &'a Vec<VarDeclarator>, usize),
+    Stmts(&'a Vec<Stmt>, usize),
+    Cases(&'a Vec<SwitchCase>, usize),
+    Exprs(&'a Vec<Expr>, usize),
     /// The items of an array that are no holes.
-    Items(&'a [Option<ExprOrSpread>]),
-    Props(&'a [PropOrSpread]),
-    Params(&'a [Pat]),
+    Items(&'a Vec<Option<ExprOrSpread>>, usize),
+    Props(&'a Vec<PropOrSpread>, usize),
+    Params(&'a Vec<Pat>, usize),
 }
 
 /// Children that are still to be read: up to four parts, and a list behind them.
@@ -167,74 +167,98 @@ impl<'a> NodeList<'a> {
     {
         match self {
             NodeList::Empty => None,
-            NodeList::ModuleItems(xs) => match xs {
-                [] => None,
-                [x, rest @ ..] => Some((
-                    Node::Item(x),
-                    Children::listed(NodeList::ModuleItems(rest)),
-                )),
-            },
-            NodeList::ImportSpecifiers(xs) => match xs {
-                [] => None,
-                [x, rest @ ..] => Some((
-                    Node::ImportSpecifier(x),
-                    Children::listed(NodeList::ImportSpecifiers(rest)),
-                )),
-            },
-            NodeList::ExportSpecifiers(xs) => match xs {
-                [] => None,
-                [x, rest @ ..] => Some((
-                    Node::ExportSpecifier(x),
-                    Children::listed(NodeList::ExportSpecifiers(rest)),
-                )),
-            },
-            NodeList::Declarators(kind, xs) => match xs {
-                [] => None,
-                [x, rest @ ..] => Some((
-                    Node::Declarator(kind, x),
-                    Children::listed(NodeList::Declarators(kind, rest)),
-                )),
-            },
-            NodeList::Stmts(xs) => match xs {
-                [] => None,
-                [x, rest @ ..] => Some((Node::Stmt(x), Children::listed(NodeList::Stmts(rest)))),
-            },
-            NodeList::Cases(xs) => match xs {
-                [] => None,
-                [x, rest @ ..] => Some((
+            NodeList::ModuleItems(xs, at) => {
+                let (_, next) = item_at(xs, at)?;
+                Some((
+                    Node::Item(xs, at),
+                    Children::listed(NodeList::ModuleItems(xs, next)),
+                ))
+            }
+            NodeList::ImportSpecifiers(xs, at) => {
+                let (_, next) = item_at(xs, at)?;
+                Some((
+                    Node::ImportSpecifier(xs, at),
+                    Children::listed(NodeList::ImportSpecifiers(xs, next)),
+                ))
+            }
+            NodeList::ExportSpecifiers(xs, at) => {
+                let (_, next) = item_at(xs, at)?;
+                Some((
+                    Node::ExportSpecifier(xs, at),
+                    Children::listed(NodeList::ExportSpecifiers(xs, next)),
+                ))
+            }
+            NodeList::Declarators(kind, xs, at) => {
+                let (_, next) = item_at(xs, at)?;
+                Some((
+                    Node::Declarator(kind, xs, at),
+                    Children::listed(NodeList::Declarators(kind, xs, next)),
+                ))
+            }
+            NodeList::Stmts(xs, at) => {
+                let (_, next) = item_at(xs, at)?;
+                Some((
+                    Node::StmtAt(xs, at),
+                    Children::listed(NodeList::Stmts(xs, next)),
+                ))
+            }
+            NodeList::Cases(xs, at) => {
+                let (x, next) = item_at(xs, at)?;
+                Some((
                     optional(&x.test),
-                    Children::one(Node::CaseBody(x), NodeList::Cases(rest)),
-                )),
-            },
-            NodeList::Exprs(xs) => match xs {
-                [] => None,
-                [x, rest @ ..] => Some((Node::Expr(x), Children::listed(NodeList::Exprs(rest)))),
-            },
-            NodeList::Items(xs) => next_item(xs),
-            NodeList::Props(xs) => match xs {
-                [] => None,
-                [x, rest @ ..] => Some((Node::Prop(x), Children::listed(NodeList::Props(rest)))),
-            },
-            NodeList::Params(xs) => match xs {
-                [] => None,
-                [x, rest @ ..] => Some((Node::Param(x), Children::listed(NodeList::Params(rest)))),
-            },
+                    Children::one(Node::CaseBody(xs, at), NodeList::Cases(xs, next)),
+                ))
+            }
+            NodeList::Exprs(xs, at) => {
+                let (_, next) = item_at(xs, at)?;
+                Some((
+                    Node::ExprAt(xs, at),
+                    Children::listed(NodeList::Exprs(xs, next)),
+                ))
+            }
+            NodeList::Items(xs, at) => next_item(xs, at),
+            NodeList::Props(xs, at) => {
+                let (_, next) = item_at(xs, at)?;
+                Some((
+                    Node::Prop(xs, at),
+                    Children::listed(NodeList::Props(xs, next)),
+                ))
+            }
+            NodeList::Params(xs, at) => {
+                let (_, next) = item_at(xs, at)?;
+                Some((
+                    Node::Param(xs, at),
+                    Children::listed(NodeList::Params(xs, next)),
+                ))
+            }
         }
     }
 }
 
-fn next_item<'a>(xs: &'a [Option<ExprOrSpread>]) -> Option<(Node<'a>, Children<'a>)>
-    ensures { item_trees expr_tree xs.now ≡ next_forest result }
+/// The item at a place of a list and the place behind it, if the list has that place.
+pub(crate) fn item_at<'a, T>(xs: &'a Vec<T>, at: usize) -> Option<(&'a T, usize)>
+    ensures there { IfSome result (λ p. drop at xs.now.items ≡ p.0.now ∷ drop p.1 xs.now.items) }
+    ensures behind { IsNone result → drop at xs.now.items ≡ [] }
 {
-    let mut left = xs;
-    while let [x, rest @ ..] = left {
+    if at < xs.len() {
+        Some((&xs[at], at + 1))
+    } else {
+        None
+    }
+}
+
+fn next_item<'a>(xs: &'a Vec<Option<ExprOrSpread>>, at: usize) -> Option<(Node<'a>, Children<'a>)>
+    ensures { item_trees expr_tree (drop at xs.now.items) ≡ next_forest result }
+{
+    let mut left = at;
+    while let Some((x, next)) = item_at(xs, left) {
         if let Some(item) = x {
             return Some((
                 Node::Expr(&item.expr),
-                Children::listed(NodeList::Items(rest)),
+                Children::listed(NodeList::Items(xs, next)),
             ));
         }
-        left = rest;
+        left = next;
     }
     None
 }

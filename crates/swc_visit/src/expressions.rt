@@ -55,8 +55,8 @@ pub(crate) fn open_expr<'a>(e: &'a Expr) -> Opened<'a>
 {
     match e {
         Expr::This(_) => Opened::leaf(Kind::This),
-        Expr::Array(n) => Opened::listed(Kind::Array(&n.elems), NodeList::Items(&n.elems)),
-        Expr::Object(n) => Opened::listed(Kind::Object, NodeList::Props(&n.props)),
+        Expr::Array(n) => Opened::listed(Kind::Array(&n.elems), NodeList::Items(&n.elems, 0)),
+        Expr::Object(n) => Opened::listed(Kind::Object, NodeList::Props(&n.props, 0)),
         Expr::Fn(n) => Opened::two(
             Kind::Fn(&n.ident),
             Node::Params(&n.function.params),
@@ -80,11 +80,17 @@ pub(crate) fn open_expr<'a>(e: &'a Expr) -> Opened<'a>
             Node::Expr(&n.alt),
         ),
         Expr::Call(n) => open_call(n),
-        Expr::New(n) => { Opened::one(Kind::New, Node::Expr(&n.callee), NodeList::Exprs(&n.args)) }
-        Expr::Seq(n) => Opened::listed(Kind::Seq, NodeList::Exprs(&n.exprs)),
+        Expr::New(n) => {
+            Opened::one(
+                Kind::New,
+                Node::Expr(&n.callee),
+                NodeList::Exprs(&n.args, 0),
+            )
+        }
+        Expr::Seq(n) => Opened::listed(Kind::Seq, NodeList::Exprs(&n.exprs, 0)),
         Expr::Ident(n) => Opened::leaf(Kind::Read(n)),
         Expr::Lit(n) => open_lit(n),
-        Expr::Tpl(n) => Opened::listed(Kind::Template(&n.quasis), NodeList::Exprs(&n.exprs)),
+        Expr::Tpl(n) => Opened::listed(Kind::Template(&n.quasis), NodeList::Exprs(&n.exprs, 0)),
         Expr::Arrow(n) => Opened::two(
             Kind::Arrow,
             Node::Params(&n.params),
@@ -201,7 +207,7 @@ fn open_member<'a>(n: &'a MemberExpr) -> Opened<'a>
 fn open_call<'a>(n: &'a CallExpr) -> Opened<'a>
     ensures { Opens (call_tree expr_tree n.now) result }
 {
-    let args = NodeList::Exprs(&n.args);
+    let args = NodeList::Exprs(&n.args, 0);
     match part_of(&n.callee) {
         Part::Member(m) => match &m.prop {
             MemberProp::Ident(k) => Opened::one(Kind::CallDot(k), Node::Expr(&m.obj), args),

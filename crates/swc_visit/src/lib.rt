@@ -17,4 +17,5 @@ pub use kind::Kind;
 pub use modules::open_module_decl;
 pub use node::Node;
 pub use opened::Opened;
+pub use statements::open_stmt;
 pub use weights::{weight, weight_of_script};

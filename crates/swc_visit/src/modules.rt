@@ -3,7 +3,7 @@ ghost use Rattle.std.specs.Prelude.{◌≡◌};
 ghost use Rattle.swc_ast.specs.Modules.{import_specifier_tree, export_specifier_tree, module_decl_tree, item_tree};
 ghost use Rattle.swc_visit.specs.Nodes.{node_tree, Opens};
 
-use crate::children::NodeList;
+use crate::children::{NodeList, item_at};
 use crate::expressions::{open_expr, open_key, open_param, open_prop_or_spread};
 use crate::kind::Kind;
 use crate::node::Node;
@@ -18,23 +18,52 @@ impl<'a> Node<'a> {
         ensures { Opens (node_tree self.entry) result }
     {
         match self {
-            Node::Module(n) => Opened::listed(Kind::Module, NodeList::ModuleItems(&n.body)),
-            Node::Script(n) => Opened::listed(Kind::Script, NodeList::Stmts(&n.body)),
-            Node::Item(n) => open_item(n),
-            Node::ImportSpecifier(n) => open_import_specifier(n),
-            Node::ExportSpecifier(n) => open_export_specifier(n),
+            Node::Module(n) => Opened::listed(Kind::Module, NodeList::ModuleItems(&n.body, 0)),
+            Node::Script(n) => Opened::listed(Kind::Script, NodeList::Stmts(&n.body, 0)),
+            Node::Item(xs, at) => match item_at(xs, at) {
+                Some((n, _)) => open_item(n),
+                None => Opened::leaf(Kind::Absent),
+            },
+            Node::ImportSpecifier(xs, at) => match item_at(xs, at) {
+                Some((n, _)) => open_import_specifier(n),
+                None => Opened::leaf(Kind::Absent),
+            },
+            Node::ExportSpecifier(xs, at) => match item_at(xs, at) {
+                Some((n, _)) => open_export_specifier(n),
+                None => Opened::leaf(Kind::Absent),
+            },
             Node::Decl(n) => open_decl(n),
             Node::VarDecl(n) => open_var(n),
-            Node::Declarator(kind, n) => open_declarator(kind, n),
+            Node::Declarator(kind, xs, at) => match item_at(xs, at) {
+                Some((n, _)) => open_declarator(kind, n),
+                None => Opened::leaf(Kind::Absent),
+            },
             Node::Stmt(n) => open_stmt(n),
-            Node::Block(n) => Opened::listed(Kind::Block, NodeList::Stmts(&n.stmts)),
-            Node::CaseBody(n) => Opened::listed(Kind::CaseBody, NodeList::Stmts(&n.cons)),
+            Node::StmtAt(xs, at) => match item_at(xs, at) {
+                Some((n, _)) => open_stmt(n),
+                None => Opened::leaf(Kind::Absent),
+            },
+            Node::Block(n) => Opened::listed(Kind::Block, NodeList::Stmts(&n.stmts, 0)),
+            Node::CaseBody(xs, at) => match item_at(xs, at) {
+                Some((n, _)) => Opened::listed(Kind::CaseBody, NodeList::Stmts(&n.cons, 0)),
+                None => Opened::leaf(Kind::Absent),
+            },
             Node::Expr(n) => open_expr(n),
-            Node::Prop(n) => open_prop_or_spread(n),
+            Node::ExprAt(xs, at) => match item_at(xs, at) {
+                Some((n, _)) => open_expr(n),
+                None => Opened::leaf(Kind::Absent),
+            },
+            Node::Prop(xs, at) => match item_at(xs, at) {
+                Some((n, _)) => open_prop_or_spread(n),
+                None => Opened::leaf(Kind::Absent),
+            },
             Node::Key(n) => open_key(n),
-            Node::Params(n) => Opened::listed(Kind::Params, NodeList::Params(n)),
-            Node::Param(n) => open_param(n),
-            Node::Body(n) => Opened::listed(Kind::Body, NodeList::Stmts(&n.stmts)),
+            Node::Params(n) => Opened::listed(Kind::Params, NodeList::Params(n, 0)),
+            Node::Param(xs, at) => match item_at(xs, at) {
+                Some((n, _)) => open_param(n),
+                None => Opened::leaf(Kind::Absent),
+            },
+            Node::Body(n) => Opened::listed(Kind::Body, NodeList::Stmts(&n.stmts, 0)),
             Node::Absent => Opened::leaf(Kind::Absent),
         }
     }
@@ -57,14 +86,14 @@ pub fn open_module_decl<'a>(n: &'a ModuleDecl) -> Opened<'a>
     match n {
         ModuleDecl::Import(n) => Opened::listed(
             Kind::Import(&n.src),
-            NodeList::ImportSpecifiers(&n.specifiers),
+            NodeList::ImportSpecifiers(&n.specifiers, 0),
         ),
         ModuleDecl::ExportDecl(n) => {
             Opened::one(Kind::ExportDecl, Node::Decl(&n.decl), NodeList::Empty)
         }
         ModuleDecl::ExportNamed(n) => Opened::listed(
             Kind::ExportNamed,
-            NodeList::ExportSpecifiers(&n.specifiers),
+            NodeList::ExportSpecifiers(&n.specifiers, 0),
         ),
         ModuleDecl::ExportDefaultDecl(n) => Opened::two(
             Kind::ExportDefaultFn(&n.decl.ident),

@@ -13,12 +13,13 @@ use swc_ast::{
     VarDeclOrExpr, VarDeclarator,
 };
 
+/// What a statement is, and its children.
 #[tactic(auto, using(swc_ast::proofs::Equations::forms))]
-pub(crate) fn open_stmt<'a>(s: &'a Stmt) -> Opened<'a>
+pub fn open_stmt<'a>(s: &'a Stmt) -> Opened<'a>
     ensures { Opens (stmt_tree s.now) result }
 {
     match s {
-        Stmt::Block(n) => Opened::listed(Kind::Block, NodeList::Stmts(&n.stmts)),
+        Stmt::Block(n) => Opened::listed(Kind::Block, NodeList::Stmts(&n.stmts, 0)),
         Stmt::Empty(_) => Opened::leaf(Kind::Empty),
         Stmt::Return(n) => match &n.arg {
             Some(e) => Opened::one(Kind::Return, Node::Expr(e), NodeList::Empty),
@@ -74,7 +75,7 @@ fn open_switch<'a>(n: &'a SwitchStmt) -> Opened<'a>
     Opened::one(
         Kind::Switch(&n.cases),
         Node::Expr(&n.discriminant),
-        NodeList::Cases(&n.cases),
+        NodeList::Cases(&n.cases, 0),
     )
 }
 
@@ -150,7 +151,7 @@ pub(crate) fn open_var<'a>(n: &'a VarDecl) -> Opened<'a>
 {
     Opened::listed(
         Kind::VarDecl(n.kind),
-        NodeList::Declarators(n.kind, &n.decls),
+        NodeList::Declarators(n.kind, &n.decls, 0),
     )
 }
 
