@@ -1,5 +1,5 @@
 -- What a set of names has, and what it has after one more.
-use Rattle.std.proofs.Common.{◌≡◌, Bool, true, false, not, ◌||◌, List, [], ◌∷◌, refl, sym, ap, ap₂, ◌∙◌, subst}
+use Rattle.std.proofs.Common.{◌≡◌, Bool, true, false, not, cond, ◌||◌, List, [], ◌∷◌, refl, sym, ap, ap₂, ◌∙◌, subst}
 use Rattle.std.proofs.lemmas.Bool.{false≢true}
 use Rattle.std.proofs.lemmas.List.Sorted.{list_any-IsPermutation}
 use Rattle.std.specs.Bool.{MatchBool}
@@ -40,3 +40,10 @@ has_more false k ks ns is put y = ap (λ js. has_name y (names js)) put ∙ ther
 pub or_behind : (a b c d : Bool) → b ≡ (c || d) → (a || b) ≡ ((a || c) || d)
 or_behind true b c d h = refl
 or_behind false b c d h = h
+
+-- a set of texts that has one more
+pub text_more : (is had has : Bool) → has ≡ cond is true had → has ≡ (had || is)
+text_more true true has h = h
+text_more true false has h = h
+text_more false true has h = h
+text_more false false has h = h

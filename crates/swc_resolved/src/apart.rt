@@ -1,6 +1,6 @@
 //! Parameters beside a default.
 ghost use Rattle.std.specs.Prelude.{◌≡◌, IfOk};
-ghost use Rattle.swc_ast.specs.Resolved.{apart, declares_text as declares_among, none_declared as none_among, params_apart};
+ghost use Rattle.swc_ast.specs.Resolved.{apart, none_declared as none_among, params_apart};
 ghost use Rattle.swc_visit.specs.Kinds.{kind_label};
 ghost use Rattle.swc_visit.specs.Nodes.{node_tree, children_forest};
 ghost use Rattle.swc_resolved.specs.Scopes.{own_apart};
@@ -8,7 +8,7 @@ ghost use Rattle.swc_resolved.specs.Names.{names as names_of};
 
 use crate::declared::{Part, add_body, add_names};
 use crate::functions::{Half, half_of, has_default, is_function};
-use crate::names::Name;
+use crate::names::{Name, TextSet};
 use std::alloc::{AllocError, Global};
 use swc_visit::{Children, Kind, Node};
 
@@ -53,32 +53,25 @@ fn are_params_apart(children: Children<'_>, alloc: Global) -> Result<bool, Alloc
     add_names(&mut own, params, Part::Params)?;
     let mut declared = Vec::new(alloc);
     add_body(&mut declared, half_of(children, Half::Body))?;
-    Ok(none_declared(&own, &declared))
+    let stand_apart = none_declared(&own, &declared, alloc)?;
+    Ok(stand_apart)
 }
 
-/// Whether no text of a parameter is among those of names.
-fn none_declared(params: &[Name<'_>], names: &[Name<'_>]) -> bool
-    ensures { result ≡ none_among (names_of params.now) (names_of names.now) }
+/// Whether no text of a parameter is among those of names. Fails where memory is refused.
+fn none_declared<'a>(
+    params: &[Name<'a>],
+    names: &[Name<'a>],
+    alloc: Global,
+) -> Result<bool, AllocError>
+    ensures { IfOk result (λ b. b ≡ none_among (names_of params.now) (names_of names.now)) }
 {
+    let texts = TextSet::of(names, alloc)?;
     let mut left = params;
     while let [param, rest @ ..] = left {
-        if declares_text(names, param.text) {
-            return false;
+        if texts.contains(param.text) {
+            return Ok(false);
         }
         left = rest;
     }
-    true
-}
-
-fn declares_text(names: &[Name<'_>], text: &str) -> bool
-    ensures { result ≡ declares_among (names_of names.now) text.now }
-{
-    let mut left = names;
-    while let [name, rest @ ..] = left {
-        if name.text == text {
-            return true;
-        }
-        left = rest;
-    }
-    false
+    Ok(true)
 }

@@ -1,13 +1,13 @@
 //! Names, and sets of them.
-ghost use Rattle.std.specs.Prelude.{◌≡◌, ◌||◌, ◌&&◌, not, [], IfOk, OnOk};
+ghost use Rattle.std.specs.Prelude.{◌≡◌, ◌||◌, ◌&&◌, not, false, [], IfOk, OnOk, bytes_eq};
 ghost use Rattle.swc_ast.specs.Marks.{mark_number};
 ghost use Rattle.swc_ast.specs.Meaning.{is_unresolved};
 ghost use Rattle.swc_ast.specs.Parts.{ident_name};
-ghost use Rattle.swc_ast.specs.Resolved.{is_default};
+ghost use Rattle.swc_ast.specs.Resolved.{is_default, declares_text};
 ghost use Rattle.swc_ast.specs.Scope.{default_name, has_name};
 ghost use Rattle.swc_ast.specs.Tree as tree;
 ghost use Rattle.swc_ast.specs.Tree.{same_name};
-ghost use Rattle.swc_resolved.specs.Names.{name, members, is_free, is_taken};
+ghost use Rattle.swc_resolved.specs.Names.{name, names as names_of, members, has_text, is_free, is_taken};
 
 use std::alloc::{AllocError, Global};
 use std::collections::HashSet;
@@ -80,6 +80,49 @@ impl<'a> NameSet<'a> {
         ensures names { OnOk result ((y : tree.Name) → has_name y (members self.new) ≡ (has_name y (members self.old) || same_name y (name x.entry))) }
     {
         Ok(self.names.insert(x)?)
+    }
+}
+
+/// A set of texts.
+#[derive(Drop)]
+pub(crate) struct TextSet<'a> {
+    texts: HashSet<&'a str>,
+}
+
+impl<'a> TextSet<'a> {
+    fn new(alloc: Global) -> TextSet<'a>
+        ensures { (t : tree.Text) → has_text result t ≡ false }
+    {
+        TextSet {
+            texts: HashSet::new(alloc),
+        }
+    }
+
+    /// The texts of some names. Fails where memory is refused.
+    pub(crate) fn of(names: &[Name<'a>], alloc: Global) -> Result<TextSet<'a>, AllocError>
+        ensures { IfOk result (λ s. (t : tree.Text) → has_text s t ≡ declares_text (names_of names.now) t) }
+    {
+        let mut set = TextSet::new(alloc);
+        let mut left = names;
+        while let [name, rest @ ..] = left {
+            set.insert(name.text)?;
+            left = rest;
+        }
+        Ok(set)
+    }
+
+    /// Whether a text is in the set.
+    pub(crate) fn contains(&self, text: &'a str) -> bool
+        ensures { result ≡ has_text self.now text.now }
+    {
+        self.texts.contains(text)
+    }
+
+    fn insert(&mut self, text: &'a str) -> Result<(), AllocError>
+        ensures { OnOk result ((t : tree.Text) → has_text self.new t ≡ (has_text self.old t || bytes_eq text.now t)) }
+    {
+        self.texts.insert(text)?;
+        Ok(())
     }
 }
 

@@ -1,7 +1,9 @@
 //! Reading a text.
 ghost use Rattle.std.specs.Prelude.{◌≡◌, ◌≢◌, ◌≤◌, ◌^◌, ◌↔◌, true, length, IfOk, IfErr};
 ghost use Rattle.std.specs.Result.{IsErrOf};
+ghost use Rattle.swc_ast.specs.Marks.{mark_number};
 ghost use Rattle.swc_ast.specs.Modules.{module_tree, script_tree};
+ghost use Rattle.swc_ast.specs.Resolved.{IsResolved};
 ghost use Rattle.swc_ast.specs.Valid.{valid};
 ghost use Rattle.swc_text.specs.declared.error.ReadError.TheVariants.{TooLong};
 
@@ -10,6 +12,7 @@ use std::alloc::Global;
 use swc_ast::{Expr, Mark, Module, Script};
 use swc_debug::{is_script_valid, is_valid};
 use swc_parser::{parse_expr, parse_module, parse_script};
+use swc_resolved::{is_resolved, is_script_resolved};
 
 /// 2^31, in bytes
 const TOO_LONG: usize = 0x8000_0000;
@@ -21,23 +24,26 @@ const TOO_LONG: usize = 0x8000_0000;
 /// name, a body whose parameters have a default, each block, `for`, `switch` and `catch`. Other names have the mark's context.
 pub fn read_module(alloc: Global, text: &str, unresolved_mark: Mark) -> Result<Module, ReadError>
     ensures valid { IfOk result (λ m. valid (module_tree m) ≡ true) }
+    ensures resolved { IfOk result (λ m. IsResolved (mark_number unresolved_mark) (module_tree m)) }
     ensures too_long { IsErrOf result ReadError.TooLong ↔ 2 ^ 31 ≤ length text.now }
 {
     if text.len() >= TOO_LONG {
         return Err(ReadError::TooLong);
     }
     match parse_module(alloc, text, unresolved_mark) {
-        Ok(read) => checked_module(read),
+        Ok(read) => checked_module(read, unresolved_mark),
         Err(fault) => Err(told(fault)),
     }
 }
 
-/// A module that was parsed: it is valid, and the test lets that be known.
-fn checked_module(read: Module) -> Result<Module, ReadError>
+/// A module that was parsed: it is valid and resolved, and the tests let that be known.
+fn checked_module(read: Module, unresolved_mark: Mark) -> Result<Module, ReadError>
     ensures valid { IfOk result (λ m. valid (module_tree m) ≡ true) }
+    ensures resolved { IfOk result (λ m. IsResolved (mark_number unresolved_mark) (module_tree m)) }
     ensures refused { IfErr result (λ e. e ≢ TooLong) }
 {
-    if is_valid(&read) {
+    let is_good = is_valid(&read) && is_resolved(&read, unresolved_mark)?;
+    if is_good {
         Ok(read)
     } else {
         Err(ReadError::Syntax { at: 0 })
@@ -48,23 +54,26 @@ fn checked_module(read: Module) -> Result<Module, ReadError>
 /// script is the first scope.
 pub fn read_script(alloc: Global, text: &str, unresolved_mark: Mark) -> Result<Script, ReadError>
     ensures valid { IfOk result (λ s. valid (script_tree s) ≡ true) }
+    ensures resolved { IfOk result (λ s. IsResolved (mark_number unresolved_mark) (script_tree s)) }
     ensures too_long { IsErrOf result ReadError.TooLong ↔ 2 ^ 31 ≤ length text.now }
 {
     if text.len() >= TOO_LONG {
         return Err(ReadError::TooLong);
     }
     match parse_script(alloc, text, unresolved_mark) {
-        Ok(read) => checked_script(read),
+        Ok(read) => checked_script(read, unresolved_mark),
         Err(fault) => Err(told(fault)),
     }
 }
 
 /// The same of a script.
-fn checked_script(read: Script) -> Result<Script, ReadError>
+fn checked_script(read: Script, unresolved_mark: Mark) -> Result<Script, ReadError>
     ensures valid { IfOk result (λ s. valid (script_tree s) ≡ true) }
+    ensures resolved { IfOk result (λ s. IsResolved (mark_number unresolved_mark) (script_tree s)) }
     ensures refused { IfErr result (λ e. e ≢ TooLong) }
 {
-    if is_script_valid(&read) {
+    let is_good = is_script_valid(&read) && is_script_resolved(&read, unresolved_mark)?;
+    if is_good {
         Ok(read)
     } else {
         Err(ReadError::Syntax { at: 0 })
