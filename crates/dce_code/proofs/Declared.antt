@@ -72,7 +72,7 @@ filters_alike S k ds = λ i. filter (λ d. not (goes_alike S k d i)) ds
 pub declaration_stays : (S : Shaker) (k : VarDeclKind) (ss : List Span) (ds es : Forest) → Sifted (goes_plainly S) false ds es → (node (VarDecl k) ss es ≡ node (VarDecl k) ss ds) × Rests S (node (VarDecl k) ss es)
 declaration_stays S k ss ds es h = (ap (λ cs. node (VarDecl k) ss cs) h.0, ap not (some_go_any S es ∙ h.1))
 
-some_counted : (es : Forest) → not (is_some_tree es) ≡ false → 1 ≤ count es
+pub some_counted : (es : Forest) → not (is_some_tree es) ≡ false → 1 ≤ count es
 some_counted ε h = absurd (true≢false h)
 some_counted (t ⊳ ts) h = omega arith
 
@@ -84,12 +84,12 @@ leaves S sifted h = nothing_left
 leaves S (stays_there s) h = absurd (true≢false h)
 leaves S (goes_there g s) h = goes_with_value g (leaves S s h)
 
-some_before : (ds es : Forest) → (es ≡ ds → ⊥) → is_some_tree es ≡ false → 1 ≤ count ds
+pub some_before : (ds es : Forest) → (es ≡ ds → ⊥) → is_some_tree es ≡ false → 1 ≤ count ds
 some_before ε ε h e = absurd (h refl)
 some_before ds (t ⊳ ts) h e = absurd (true≢false e)
 some_before (t ⊳ ts) ε h e = omega arith
 
-not_true : (b : Bool) → not b ≡ true → b ≡ false
+pub not_true : (b : Bool) → not b ≡ true → b ≡ false
 not_true true h = absurd (false≢true h)
 not_true false h = refl
 

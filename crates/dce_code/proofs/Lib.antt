@@ -4,3 +4,9 @@ pub mod Declared
 pub mod Rested
 pub mod Knowing
 pub mod NotEntered
+pub mod Given
+pub mod Depths
+pub mod Opening
+pub mod Valued
+pub mod Idle
+pub mod Shielded

@@ -1,7 +1,8 @@
--- Statements at which nothing is to do.
-use Rattle.std.proofs.Common.{◌≡◌, Bool, true, sym, ap, ◌∙◌}
-use Rattle.swc_ast.specs.Views.{stmt_tree}
-use Rattle.swc_ast.specs.Tree.{Tree}
+-- Nodes at which nothing is to do.
+use Rattle.std.proofs.Common.{◌≡◌, Bool, true, false, refl, sym, ap, ◌∙◌}
+use Rattle.std.proofs.lemmas.Bool.{false≢true}
+use Rattle.swc_ast.specs.Views.{expr_tree, stmt_tree}
+use Rattle.swc_ast.specs.Tree.{Label, VarDecl, Import, Tree, Forest}
 use Rattle.swc_ast.specs.declared.declarations.Decl.{Decl}
 use Rattle.swc_ast.specs.declared.declarations.Decl.TheOpen as Open
 use Rattle.swc_ast.specs.declared.declarations.Function.{Function}
@@ -20,7 +21,9 @@ use Rattle.swc_ast.specs.declared.statements.Stmt.{Stmt}
 use Rattle.swc_ast.specs.declared.statements.Stmt.TheVariants as in_stmt
 use Rattle.swc_ast.proofs.Equations.{stmt_tree-Block, stmt_tree-Empty, stmt_tree-Return, stmt_tree-Labeled, stmt_tree-Break, stmt_tree-Continue, stmt_tree-If, stmt_tree-Switch, stmt_tree-Throw, stmt_tree-Try, stmt_tree-While, stmt_tree-DoWhile, stmt_tree-For, stmt_tree-Expr, if_tree-is, switch_tree-is, for_tree-is}
 use Rattle.swc_ast.specs.declared.declarations.Decl.TheViews.{roll-Stmt, out-Stmt, roll-out-Stmt}
+use Rattle.swc_static.specs.Drawn.{is_expression}
 use Rattle.swc_static.specs.Names.{label_of, trees_of}
+use Rattle.expr_steps.proofs.ExprTrees.{is_an_expression}
 use Rattle.dce_rules.specs.Shakes.{Shaker, node_rests, Rests}
 
 abbrev own : Shaker → Tree → Bool
@@ -46,3 +49,12 @@ other_rests S s others = by (out-Stmt s) (roll-out-Stmt s)
     by (Open.For n) r = ap (λ z. own S (stmt_tree z)) (sym r) ∙ ap (own S) (ap stmt_tree (in_stmt.rolls-For n) ∙ stmt_tree-For n ∙ for_tree-is n)
     by (Open.Decl n) r = absurd (others n (sym r ∙ in_stmt.rolls-Decl n))
     by (Open.Stmt::Expr n) r = ap (λ z. own S (stmt_tree z)) (sym r) ∙ ap (own S) (ap stmt_tree (in_stmt.rolls-Expr n) ∙ stmt_tree-Expr n)
+
+no_rule : (S : Shaker) (l : Label) (cs : Forest) → is_expression l ≡ true → node_rests S l cs ≡ true
+no_rule S (VarDecl k) cs h = absurd (false≢true h)
+no_rule S (Import src) cs h = absurd (false≢true h)
+no_rule S _ cs h = refl
+
+-- an expression is neither a declaration nor an import
+pub expr_rests : (S : Shaker) (e : Expr) → Rests S (expr_tree e)
+expr_rests S e = no_rule S (label_of (expr_tree e)) (trees_of (expr_tree e)) (is_an_expression e)

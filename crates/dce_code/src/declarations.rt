@@ -1,5 +1,5 @@
 //! Declarations of variables.
-ghost use Rattle.std.specs.Prelude.{◌≡◌, not};
+ghost use Rattle.std.specs.Prelude.{◌≡◌, IfOk, not};
 ghost use Rattle.swc_ast.specs.Parts.{list_trees};
 ghost use Rattle.swc_ast.specs.Statements.{declarator_tree, var_tree};
 ghost use Rattle.swc_ast.specs.Views.{decl_tree, expr_tree, stmt_tree};
@@ -14,11 +14,13 @@ ghost use Rattle.dce_code.specs.Left.{LeftOf};
 ghost use Rattle.dce_code.specs.Lists.{Sifted};
 
 use crate::known::Known;
-use swc_ast::{Decl, EmptyStmt, Expr, Span, Stmt, VarDecl, VarDeclarator};
+use crate::places::NOWHERE;
+use std::alloc::{AllocError, Global};
+use swc_ast::{Decl, EmptyStmt, Expr, Stmt, VarDecl, VarDeclarator};
 
 /// What is left of a statement.
 #[derive(Clone, Copy, Debug, PartialEq, Eq)]
-enum Left {
+pub(crate) enum Left {
     /// The statement as it was.
     Same,
     /// Some of it.
@@ -26,12 +28,9 @@ enum Left {
     Nothing,
 }
 
-/// What stands nowhere in the text.
-const NOWHERE: Span = Span { lo: 0, hi: 0 };
-
 /// Whether an expression is a number, a text, a truth value or null, written out.
 #[tactic(auto, using(swc_ast::proofs::Equations::forms))]
-fn is_plain_value(e: &Expr) -> bool
+pub(crate) fn is_plain_value(e: &Expr) -> bool
     ensures { result ≡ tree_is_plain (expr_tree e.now) }
 {
     match e {
@@ -58,7 +57,7 @@ fn is_plain_value(e: &Expr) -> bool
 
 /// Whether there are no declarators.
 #[tactic(auto, using(crate::proofs::Sifted::none_by_count))]
-fn is_nothing(decls: &[VarDeclarator]) -> bool
+pub(crate) fn is_nothing(decls: &[VarDeclarator]) -> bool
     ensures { result ≡ not (is_some_tree (list_trees (declarator_tree expr_tree Var) decls.now)) }
 {
     decls.is_empty()
@@ -116,10 +115,8 @@ impl<'a> Known<'a> {
         }
     }
 
-    /// Drops the declarators of a declaration of variables that go: those of names that are free to, without a first
-    /// value or with one that is written out. False: it is as it was, or another statement, and nothing is to do at it.
     #[tactic(auto, using(swc_ast::proofs::Equations::forms))]
-    pub fn shake_stmt(&self, s: &mut Stmt) -> bool
+    fn sift(&self, s: &mut Stmt) -> bool
         ensures { Became (shake_pass (shaker self.now)) result (stmt_tree s.old) (stmt_tree s.new) }
     {
         match self.shake(s) {
@@ -129,6 +126,22 @@ impl<'a> Known<'a> {
                 *s = Stmt::Empty(EmptyStmt { span: NOWHERE });
                 true
             }
+        }
+    }
+
+    /// Drops what goes of a declaration of variables. Where all its names are free to go, its first values are left as a
+    /// statement, without those that are written out; else those declarators go whose names are free to, without a first
+    /// value or with one that is written out. False: it is as it was, or another statement, and nothing is to do at it.
+    /// Fails where memory is refused.
+    pub fn shake_stmt(&self, alloc: Global, s: &mut Stmt) -> Result<bool, AllocError>
+        ensures { IfOk result (λ changed. Became (shake_pass (shaker self.now)) changed (stmt_tree s.old) (stmt_tree s.new)) }
+    {
+        match self.replace(alloc, s)? {
+            Some(values) => {
+                *s = values;
+                Ok(true)
+            }
+            None => Ok(self.sift(s)),
         }
     }
 }

@@ -4,7 +4,7 @@ ghost use Rattle.swc_ast.specs.Meaning.{is_unresolved};
 ghost use Rattle.swc_ast.specs.Parts.{ident_name};
 ghost use Rattle.swc_ast.specs.Run.{has_text};
 ghost use Rattle.swc_utils.specs.Globals.{unresolved};
-ghost use Rattle.dce_code.specs.Knowledge.{may_go, shaker};
+ghost use Rattle.dce_code.specs.Knowledge.{is_inner, is_inward, may_go, shaker};
 
 use dce_uses::Uses;
 use swc_ast::{Ident, SyntaxContext};
@@ -19,6 +19,8 @@ pub struct Known<'a> {
     pub retained: &'a [String],
     /// Which names are unresolved.
     pub ctx: ExprCtx,
+    /// Whether names of the top level go too.
+    pub top_level: bool,
     /// Whether an import goes of which no specifier is left.
     pub drops_imports: bool,
 }
@@ -52,17 +54,35 @@ impl<'a> Known<'a> {
         !is_among(self.retained, &name.sym)
     }
 
+    /// Whether a name is declared below the top level, where names of the top level stay.
+    fn is_inner(&self, name: &Ident) -> bool
+        ensures { result ≡ is_inner self.now (ident_name name.now) }
+    {
+        self.top_level || !self.uses.is_held(name)
+    }
+
+    /// Whether only declarations of functions speak of a name, where names of the top level stay. No further look at where
+    /// an assignment stands is needed: in such a declaration it stands inside a block, as which a function counts.
+    fn is_inward(&self, name: &Ident) -> bool
+        ensures { result ≡ is_inward self.now (ident_name name.now) }
+    {
+        self.top_level || !self.uses.is_abroad(name)
+    }
+
     /// Whether a name goes, with what declares it.
     pub fn is_free(&self, name: &Ident) -> bool
         ensures { result ≡ (shaker self.now).free (ident_name name.now) }
     {
-        self.may_go(name) && self.uses.is_free(name)
+        self.may_go(name) && self.uses.is_free(name) && self.is_inner(name)
     }
 
     /// Whether plain assignments to a name go.
     pub fn is_unread(&self, name: &Ident) -> bool
         ensures { result ≡ (shaker self.now).unread (ident_name name.now) }
     {
-        self.may_go(name) && self.uses.is_unread(name) && !is_unresolved(self.ctx, name)
+        self.may_go(name)
+            && self.uses.is_unread(name)
+            && !is_unresolved(self.ctx, name)
+            && self.is_inward(name)
     }
 }

@@ -1,13 +1,14 @@
 //! Places that are not entered.
 ghost use Rattle.std.specs.Prelude.{◌≡◌, true, IsTrue, List};
-ghost use Rattle.swc_ast.specs.Parts.{list_trees};
 ghost use Rattle.swc_ast.specs.Reach.{is_asm as tree_is_asm};
 ghost use Rattle.swc_ast.specs.Tree.{ExprStmt, Label, node, ε, ◌⊳◌};
 ghost use Rattle.swc_ast.specs.Views.{expr_tree, stmt_tree};
 ghost use Rattle.swc_ast.specs.Weight.{is_list};
 ghost use Rattle.swc_ast.specs.declared.Span.{Span as Place};
 ghost use Rattle.dce_rules.specs.Shakes.{is_shut};
+ghost use Rattle.dce_code.specs.Lists.{trees};
 
+use stmt_like::StmtLike;
 use swc_ast::{Expr, Lit, Stmt};
 
 #[tactic(auto, using(swc_ast::proofs::Equations::forms))]
@@ -34,13 +35,16 @@ fn is_asm(s: &Stmt) -> bool
     }
 }
 
-/// Whether statements begin with `'use asm'`: the list that they are is not entered.
+/// Whether statements, or items of a module, begin with `'use asm'`: the list that they are is not entered.
 #[tactic(auto, using(crate::proofs::NotEntered::shut_by_first))]
-pub fn begins_with_asm(stmts: &[Stmt]) -> bool
-    ensures { IsTrue result → (l : Label) → is_list l ≡ true → (ss : List Place) → is_shut (node l ss (list_trees stmt_tree stmts.now)) ≡ true }
+pub fn begins_with_asm<T: StmtLike>(items: &[T]) -> bool
+    ensures { IsTrue result → (l : Label) → is_list l ≡ true → (ss : List Place) → is_shut (node l ss (trees T.item items.now)) ≡ true }
 {
-    match stmts {
-        [first, ..] => is_asm(first),
-        [] => false,
+    let [first, ..] = items else {
+        return false;
+    };
+    match first.as_stmt() {
+        Some(s) => is_asm(s),
+        None => false,
     }
 }

@@ -62,12 +62,20 @@ is_free u x = not ((fact_of u.table fact.Used x || fact_of u.table fact.Written 
 abbrev pub is_unused : Uses → Name → Bool
 is_unused u x = fact_of u.table fact.Declared x && not (fact_of u.table fact.Read x || is_hidden u x)
 
+-- the names that are declared at the top level
+abbrev pub is_held : Uses → Name → Bool
+is_held u x = fact_of u.table fact.Held x
+
+-- the names that occur outside the declarations of functions
+abbrev pub is_abroad : Uses → Name → Bool
+is_abroad u x = fact_of u.table fact.Abroad x
+
 -- A table tells of each name what a tree says of it.
 pub record Tells (u : Uses) (t : Tree) : Type 0 where
   pub free : (x : Name) → is_free u x ≡ free_to_go [] t x
   pub unread : (x : Name) → is_unused u x ≡ is_unread [] t x
-  pub held : (x : Name) → fact_of u.table fact.Held x ≡ noted fact.Held x at_top t
-  pub abroad : (x : Name) → fact_of u.table fact.Abroad x ≡ noted fact.Abroad x at_top t
+  pub held : (x : Name) → is_held u x ≡ noted fact.Held x at_top t
+  pub abroad : (x : Name) → is_abroad u x ≡ noted fact.Abroad x at_top t
 
 -- A table becomes another where the counters of some names are those of before.
 abbrev pub Restores : Table → Table → List Name → Option Tally → Type 0

@@ -7,7 +7,6 @@ ghost use Rattle.swc_ast.specs.Tree.{same_name};
 ghost use Rattle.swc_ast.specs.declared.errors.PassError.TheVariants.{OutOfMemory};
 ghost use Rattle.dce_uses.specs.Tables as tables;
 ghost use Rattle.dce_uses.specs.declared.tally.Fact as facts;
-ghost use Rattle.dce_uses.specs.declared.tally.Fact.TheVariants as fact;
 
 use crate::exports::any_nameless;
 use crate::place::Place;
@@ -93,14 +92,14 @@ impl Uses {
 
     /// Whether a name is declared at the top level: a function or `var` outside functions, others outside blocks.
     pub fn is_held(&self, name: &Ident) -> bool
-        ensures { result ≡ tables.fact_of self.now.table fact.Held (ident_name name.now) }
+        ensures { result ≡ tables.is_held self.now (ident_name name.now) }
     {
         self.tally(name).has(Fact::Held)
     }
 
     /// Whether a name occurs outside the declarations of functions.
     pub fn is_abroad(&self, name: &Ident) -> bool
-        ensures { result ≡ tables.fact_of self.now.table fact.Abroad (ident_name name.now) }
+        ensures { result ≡ tables.is_abroad self.now (ident_name name.now) }
     {
         self.tally(name).has(Fact::Abroad)
     }

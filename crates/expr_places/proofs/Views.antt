@@ -120,13 +120,16 @@ long_list p (x ∷ y ∷ []) h = absurd (omega (arith, h))
 long_list p (x ∷ y ∷ z ∷ xs) h = refl
 
 -- `(0, e)`
-pub shielded_at : (p : Place) (e : Expr) (n : SeqExpr Expr) → stands_alone p (expr_tree e) ≡ false → n.span ≡ nowhere → n.exprs.items ≡ in_expr.Lit (lit.Num (record { span = nowhere; value = pos zero })) ∷ e ∷ [] → expr_tree (in_expr.Seq n) ≡ shielded p (expr_tree e)
-shielded_at p e n h s items =
+pub guarded_at : (e : Expr) (n : SeqExpr Expr) → n.span ≡ nowhere → n.exprs.items ≡ in_expr.Lit (lit.Num (record { span = nowhere; value = pos zero })) ∷ e ∷ [] → expr_tree (in_expr.Seq n) ≡ guarded (nowhere ∷ []) (nowhere ∷ []) (expr_tree e)
+guarded_at e n s items =
     expr_tree-Seq n
     ∙ ap (λ r. node tree.Seq (r ∷ []) (list_trees expr_tree n.exprs.items)) s
     ∙ ap (λ xs. node tree.Seq (nowhere ∷ []) (list_trees expr_tree xs)) items
     ∙ ap (λ z. node tree.Seq (nowhere ∷ []) (z ⊳ expr_tree e ⊳ ε)) (expr_tree-Lit (lit.Num (record { span = nowhere; value = pos zero })))
-    ∙ sym (ap (λ b. if b then expr_tree e else guarded (nowhere ∷ []) (nowhere ∷ []) (expr_tree e)) h)
+
+-- where the expression by itself would mean something else
+pub shielded_at : (p : Place) (t u : Tree) → stands_alone p t ≡ false → u ≡ guarded (nowhere ∷ []) (nowhere ∷ []) t → u ≡ shielded p t
+shielded_at p t u h is = is ∙ sym (ap (λ b. if b then t else guarded (nowhere ∷ []) (nowhere ∷ []) t) h)
 
 -- `delete`
 pub delete_label : (n : UnaryExpr Expr) (e : Expr) → e ≡ in_expr.Unary n → n.op ≡ op.Delete → is_delete (label_of (expr_tree e)) ≡ true

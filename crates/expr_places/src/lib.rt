@@ -5,4 +5,4 @@ mod defaults;
 mod places;
 
 pub use defaults::drop_default;
-pub use places::{is_delete, is_shield, shielded};
+pub use places::{is_delete, is_shield, shield, shielded};

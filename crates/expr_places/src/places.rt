@@ -1,10 +1,12 @@
 //! Places where a member or a name would mean something else than an expression of its value: a call of a member hands on
 //! its object, a call of `eval` is direct, and `typeof` of a name doesn't throw.
-ghost use Rattle.std.specs.Prelude.{◌≡◌, IfOk, IsTrue, true};
+ghost use Rattle.std.specs.Prelude.{◌≡◌, ◌≤◌, ◌+◌, IfOk, IsTrue, true, [], ◌∷◌};
 ghost use Rattle.swc_ast.specs.Parts.{list_trees};
 ghost use Rattle.swc_ast.specs.Redex as redex;
 ghost use Rattle.swc_ast.specs.Views.{expr_tree};
+ghost use Rattle.swc_ast.specs.declared.expressions.Expr.{size-Expr};
 ghost use Rattle.swc_static.specs.Names.{label_of};
+ghost use Rattle.expr_rules.specs.Leaves.{guarded};
 ghost use Rattle.expr_places.specs.Places as places;
 
 use std::alloc::{AllocError, Global};
@@ -49,15 +51,12 @@ pub fn is_shield(place: Place, e: &Expr) -> bool
     }
 }
 
-/// An expression, or `(0, e)` where it would mean something else by itself: a call of a member hands on its object, a call of
-/// `eval` is direct, and `typeof` of a name doesn't throw (ECMA-262, 13.3.6.1 and 13.5.3.1). Fails where memory is refused.
+/// `(0, e)`. Fails where memory is refused.
 #[tactic(auto, using(swc_ast::proofs::Equations::forms))]
-pub fn shielded(alloc: Global, place: Place, e: Expr) -> Result<Expr, AllocError>
-    ensures { IfOk result (λ r. expr_tree r ≡ places.shielded place (expr_tree e)) }
+pub fn shield(alloc: Global, e: Expr) -> Result<Expr, AllocError>
+    ensures tree { IfOk result (λ r. expr_tree r ≡ guarded (places.nowhere ∷ []) (places.nowhere ∷ []) (expr_tree e)) }
+    ensures depth { IfOk result (λ r. size-Expr r ≤ size-Expr e + 1) }
 {
-    if fits(place, &e) {
-        return Ok(e);
-    }
     let zero = Expr::Lit(Lit::Num(Number {
         span: NOWHERE,
         value: 0,
@@ -67,6 +66,18 @@ pub fn shielded(alloc: Global, place: Place, e: Expr) -> Result<Expr, AllocError
         span: NOWHERE,
         exprs,
     }))
+}
+
+/// An expression, or `(0, e)` where it would mean something else by itself: a call of a member hands on its object, a call of
+/// `eval` is direct, and `typeof` of a name doesn't throw (ECMA-262, 13.3.6.1 and 13.5.3.1). Fails where memory is refused.
+pub fn shielded(alloc: Global, place: Place, e: Expr) -> Result<Expr, AllocError>
+    ensures { IfOk result (λ r. expr_tree r ≡ places.shielded place (expr_tree e)) }
+{
+    if fits(place, &e) {
+        return Ok(e);
+    }
+    let guarded = shield(alloc, e)?;
+    Ok(guarded)
 }
 
 /// Whether an expression is `delete` of something. Its operand is a reference, and no pass enters it.

@@ -1,1 +1,2 @@
 pub mod Shaken
+pub mod Configured

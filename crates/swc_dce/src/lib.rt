@@ -1,7 +1,14 @@
-//! The tree shaker: what it may answer, and what holds of each answer.
+//! The tree shaker: what declares names that nothing uses goes, and so do assignments to names that nothing reads.
 #![tactic(auto)]
 
 ghost use Rattle.swc_dce.specs.Shaken.{LawfulShaking, WalkIsShaken, WalkTells};
+
+mod config;
+mod rules;
+mod shaker;
+
+pub use config::Config;
+pub use shaker::{TreeShaker, dce};
 
 /// The laws of the tree shaker, which its contract states.
 pub fn laws()

@@ -1,0 +1,119 @@
+//! The pass.
+ghost use Rattle.std.specs.Prelude.{◌≡◌, not, false, map, string_bytes};
+ghost use Rattle.swc_ast.specs.Marks.{mark_number};
+ghost use Rattle.swc_utils.specs.Globals.{unresolved};
+ghost use Rattle.swc_dce.specs.Configured as configured;
+ghost use Rattle.swc_dce.specs.Shaken.{Told, shake_spec, shake_lawful};
+
+use crate::config::Config;
+use crate::rules::ShakeRules;
+use dce_code::Known;
+use dce_uses::Uses;
+use std::alloc::Global;
+use swc_ast::{Mark, Module, PassError, Script, SyntaxContext};
+use swc_pass::{CompilerPass, Pass, Repeated};
+use swc_utils::ExprCtx;
+use swc_walk::{walk_module, walk_script};
+
+/// A pass that drops what declares names that nothing uses, and assignments to names that nothing reads, in one walk.
+#[derive(Drop)]
+pub struct TreeShaker {
+    config: Config,
+    unresolved_mark: Mark,
+    changed: bool,
+}
+
+/// The pass for modules whose unresolved names bear the mark.
+pub fn dce(config: Config, unresolved_mark: Mark) -> TreeShaker
+    ensures settings { ⟦<TreeShaker as Pass>⟧.settings result ≡ configured.told unresolved_mark config }
+    ensures changed { ⟦<TreeShaker as Repeated>⟧.is_changed result ≡ false }
+{
+    TreeShaker {
+        config,
+        unresolved_mark,
+        changed: false,
+    }
+}
+
+impl TreeShaker {
+    /// What is known in a run over a module or a script that uses its names so.
+    fn known<'a>(&'a self, uses: &'a Uses) -> Known<'a>
+        ensures uses { result.uses.now ≡ uses.now }
+        ensures mark { unresolved result.ctx ≡ mark_number self.now.unresolved_mark }
+        ensures retained { result.retained.now ≡ self.now.config.top_retain.items }
+        ensures top_level { result.top_level ≡ self.now.config.top_level }
+        ensures imports { result.drops_imports ≡ not self.now.config.preserve_imports_with_side_effects }
+    {
+        Known {
+            uses,
+            retained: &self.config.top_retain,
+            ctx: ExprCtx {
+                unresolved_ctxt: SyntaxContext::empty().apply_mark(self.unresolved_mark),
+                is_unresolved_ref_safe: false,
+            },
+            top_level: self.config.top_level,
+            drops_imports: !self.config.preserve_imports_with_side_effects,
+        }
+    }
+}
+
+impl Repeated for TreeShaker {
+    ghost is_changed = { λ p. p.changed };
+
+    ghost resets_to = { λ p q. (q.unresolved_mark ≡ p.unresolved_mark) × (q.config ≡ p.config) };
+
+    fn changed(&self) -> bool {
+        self.changed
+    }
+
+    fn reset(&mut self) {
+        self.changed = false;
+    }
+}
+
+impl CompilerPass for TreeShaker {
+    /// `tree-shaker`
+    fn name(&self) -> &'static str {
+        "tree-shaker"
+    }
+}
+
+impl Pass for TreeShaker {
+    ghost Settings = { Told };
+
+    ghost settings = { λ p. configured.told p.unresolved_mark p.config };
+
+    ghost spec = { shake_spec };
+
+    fn mark(&self) -> Option<Mark> {
+        Some(self.unresolved_mark)
+    }
+
+    fn lowers(&self) -> bool {
+        true
+    }
+
+    #[tactic(auto, using(crate::proofs::Made::shaken_module, crate::proofs::ShakeLaw::tells))]
+    fn rewrite(&mut self, alloc: Global, mut module: Module) -> Result<Module, PassError> {
+        self.changed = false;
+        let uses = Uses::of_module(alloc, &module)?;
+        let known = self.known(&uses);
+        let changed = walk_module(&ShakeRules { alloc, known }, &mut module)?;
+        self.changed = changed;
+        Ok(module)
+    }
+
+    #[tactic(auto, using(crate::proofs::Made::shaken_script, crate::proofs::ShakeLaw::tells))]
+    fn rewrite_script(&mut self, alloc: Global, mut script: Script) -> Result<Script, PassError> {
+        self.changed = false;
+        let uses = Uses::of_script(alloc, &script)?;
+        let known = self.known(&uses);
+        let changed = walk_script(&ShakeRules { alloc, known }, &mut script)?;
+        self.changed = changed;
+        Ok(script)
+    }
+
+    ghost reset_keeps = { λ p q h i. configured.told (h.0 i) (h.1 i) };
+
+    ghost lawful = { λ p. shake_lawful (configured.told p.unresolved_mark p.config) };
+}
