@@ -1,0 +1,4 @@
+pub mod Exact
+pub mod Rounds
+pub mod Settling
+pub mod Runs

@@ -1,0 +1,124 @@
+-- The three passes in a row, again and again, are rounds, and a round is a lawful pass.
+use Rattle.std.proofs.Common.{ℕ, Bool, true, false, ◌≡◌, refl, sym, subst, Some}
+use Rattle.swc_ast.specs.declared.names.Mark.{Mark}
+use Rattle.swc_ast.specs.Marks.{mark_number}
+use Rattle.swc_ast.specs.Core.{IsCore}
+use Rattle.swc_ast.specs.Resolved.{IsResolved}
+use Rattle.swc_ast.specs.Run.{Same}
+use Rattle.swc_ast.specs.Tree.{Tree}
+use Rattle.swc_ast.specs.Valid.{valid}
+use Rattle.swc_meaning.proofs.Observations.{same_itself, same_trans}
+use Rattle.swc_pass.specs.Chain.{MarksAgree, Chained, chained}
+use Rattle.swc_pass.specs.ChainLaws.{chained_lawful, lighter_on}
+use Rattle.swc_pass.specs.Pass.{PassSpec, IsLawful}
+use Rattle.swc_pass.specs.Repeat.{Rounds, none, changing, last, Rounded, Repeats}
+use Rattle.swc_pass.specs.RepeatLaws.{rounds_give}
+use Rattle.swc_expr.specs.Simplified.{Simplified, simplify_spec, simplify_lawful}
+use Rattle.swc_expr.proofs.SimplifyLaw.{tells as simplify_tells}
+use Rattle.swc_branch.specs.Removed.{Removed, remove_spec, remove_lawful}
+use Rattle.swc_branch.proofs.RemoveLaw.{tells as remove_tells}
+use Rattle.swc_dce.specs.Shaken.{Told, Shaken, shake_spec, shake_lawful}
+use Rattle.swc_dce.proofs.ShakeLaw.{tells as shake_tells}
+use Rattle.swc_optimization.specs.Laws.{row_spec, HasOneMark}
+use Rattle.swc_optimization.specs.Simplifier.{Round, round_spec}
+use Rattle.swc_optimization.proofs.Exact.{Settles, settles, given_last, row_last, row_settles}
+
+-- a round keeps what its passes keep
+
+module _ (told : Told) where
+  pub round_resolved : (n : ℕ) (t u : Tree) → Round told t u → IsResolved n t → IsResolved n u
+  round_resolved n t u a r = a.shakes.resolved n (a.removes.resolved n (a.simplifies.resolved n r))
+
+  pub round_core : (t u : Tree) → Round told t u → IsCore t → IsCore u
+  round_core t u a c = a.shakes.core (a.removes.core (a.simplifies.core c))
+
+  pub round_valid : (t u : Tree) → Round told t u → valid t ≡ true → valid u ≡ true
+  round_valid t u a v = a.shakes.stays_valid (a.removes.stays_valid (a.simplifies.stays_valid v))
+
+  round_same : (n : ℕ) (t u : Tree) → n ≡ mark_number told.mark → Round told t u → IsResolved n t → IsCore t → Same n told.keeps_imports t u
+  round_same n t u f a r c =
+      let s = a.simplifies.resolved n r in
+      let d = a.simplifies.core c in
+      same_trans n told.keeps_imports t a.simplified u (a.simplifies.same n f told.keeps_imports)
+      (same_trans n told.keeps_imports a.simplified a.removed u (a.removes.same n f s d told.keeps_imports)
+      (a.shakes.same n f (a.removes.resolved n s) (a.removes.core d)))
+
+  pub round_lawful : IsLawful (round_spec told)
+  round_lawful = record {
+    same = λ n t u f a r c. round_same n t u f a r c;
+    resolved = λ n t u f a r. round_resolved n t u a r;
+    valid = λ n t u f a r v. round_valid t u a v;
+    core = λ n t u f a r c. round_core t u a c;
+    lighter = λ t u e a. lighter_on t a.removed u (lighter_on t a.simplified a.removed a.simplifies.lighter a.removes.lighter) a.shakes.lighter;
+  }
+
+-- each pass answers what is equal or lighter
+
+pub simplify_settles : (m : Mark) → Settles (simplify_spec m)
+simplify_settles m = settles (simplify_lawful m) refl (λ t u a. (a.changed, simplify_tells (mark_number m) t u a.changed a.walk))
+
+pub remove_settles : (m : Mark) → Settles (remove_spec m)
+remove_settles m = settles (remove_lawful m) refl (λ t u a. (a.changed, remove_tells (mark_number m) t u a.changed a.walk))
+
+pub shake_settles : (told : Told) → Settles (shake_spec told)
+shake_settles told = settles (shake_lawful told) refl (λ t u a. (a.changed, shake_tells a.shaker a.changed t u a.walk))
+
+-- what the row answers is a round
+
+abbrev one_row : Told → PassSpec
+one_row told = row_spec ((told.mark, told.mark), told)
+
+module _ (told : Told) where
+  front_settles : Settles (chained (simplify_spec told.mark) (remove_spec told.mark))
+  front_settles = row_settles (simplify_settles told.mark) (remove_settles told.mark)
+
+  row_round : (t u : Tree) → (one_row told).answers t u → Round told t u
+  row_round t u a =
+      let b = a.first_answers in
+      record {
+        simplified = b.between;
+        removed = a.between;
+        simplifies = b.first_answers;
+        removes = subst (λ x. Removed (mark_number told.mark) b.between x) (sym (row_last (simplify_settles told.mark) (remove_settles told.mark) t a.between b)) b.second_answers;
+        shakes = subst (λ x. Shaken told a.between x) (sym (row_last front_settles (shake_settles told) t u a)) a.second_answers;
+      }
+
+-- the passes tell the same mark
+agree : (m : Mark) → MarksAgree (Some m) (Some m)
+agree m a b e f = cc
+
+row_lawful : (told : Told) → IsLawful (one_row told)
+row_lawful told = chained_lawful (agree told.mark) (chained_lawful (agree told.mark) (simplify_lawful told.mark) (remove_lawful told.mark)) (shake_lawful told)
+
+-- rounds of one relation are rounds of a wider one
+wider_rounds : {A B : Tree → Tree → Type 0} (f : (t u : Tree) → A t u → B t u) {t u : Tree} {n : ℕ} {b : Bool} → Rounds A t n b u → Rounds B t n b u
+wider_rounds f none = none
+wider_rounds f (changing {u = u} {v = v} s a d) = changing (wider_rounds f s) (f u v a) d
+wider_rounds f (last {u = u} s a) = last (wider_rounds f s) (f u u a)
+
+rows_of_one : (told : Told) (most : ℕ) (t : Tree) (n : ℕ) (b : Bool) (u : Tree) → Repeats (one_row told) most t n b u → Rounded (round_spec told) most t n b u
+rows_of_one told most t n b u r =
+    let e = given_last (rounds_give (row_lawful told) t n b r.last refl r.rounded.rounds) refl r.gives in
+    record {
+      rounds = subst (λ x. Rounds (Round told) t n b x) (sym e) (wider_rounds (row_round told) r.rounded.rounds);
+      within = r.rounded.within;
+      fewer = r.rounded.fewer;
+    }
+
+pub rows_are_rounds : (s : (Mark × Mark) × Told) (most : ℕ) (t : Tree) (n : ℕ) (b : Bool) (u : Tree) → HasOneMark s → Repeats (row_spec s) most t n b u → Rounded (round_spec s.1) most t n b u
+rows_are_rounds s most t n b u e r = rows_of_one s.1 most t n b u (subst (λ m. Repeats (row_spec (m, s.1)) most t n b u) e r)
+
+-- what each round keeps, rounds keep
+module _ {told : Told} (P : Tree → Type 0) (keeps : (t u : Tree) → Round told t u → P t → P u) where
+  pub rounds_keep : {t u : Tree} {n : ℕ} {b : Bool} → Rounds (Round told) t n b u → P t → P u
+  rounds_keep none p = p
+  rounds_keep (changing {u = u} {v = v} s a d) p = keeps u v a (rounds_keep s p)
+  rounds_keep (last s a) p = rounds_keep s p
+
+-- rounds do the same
+pub rounds_same : (told : Told) {t u : Tree} {n : ℕ} {b : Bool} → Rounds (Round told) t n b u → IsResolved (mark_number told.mark) t → IsCore t → Same (mark_number told.mark) told.keeps_imports t u
+rounds_same told {t} {u} s r c =
+    let m = mark_number told.mark in
+    let l = told.keeps_imports in
+    let p = rounds_keep (λ x. IsResolved m x × IsCore x × Same m l t x) (λ v w a q. (round_resolved told m v w a q.0, round_core told v w a q.1, same_trans m l t v w q.2 (round_same told m v w refl a q.0 q.1))) s (r, c, same_itself m l t) in
+    p.2

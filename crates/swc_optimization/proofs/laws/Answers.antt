@@ -1,0 +1,6 @@
+use Rattle.swc_optimization.proofs.Rounds.{round_lawful, rows_are_rounds}
+use Rattle.swc_optimization.proofs.Settling.{reached_settled}
+use Rattle.swc_optimization.proofs.laws.Goals as goal
+
+pub returns : goal.returns
+returns c = record { lawful = round_lawful; rounds = rows_are_rounds; settled = reached_settled }

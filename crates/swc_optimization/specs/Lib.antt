@@ -1,0 +1,2 @@
+pub mod Simplifier
+pub mod Laws

@@ -1,0 +1,41 @@
+-- What the simplifier makes of a module or a script.
+use Rattle.std.specs.Prelude.{ℕ, ◌≡◌, Bool, true, false, List, ◌∷◌, Some}
+use Rattle.swc_ast.specs.declared.Span.{Span}
+use Rattle.swc_ast.specs.Marks.{mark_number}
+use Rattle.swc_ast.specs.Redex.{has_redex}
+use Rattle.swc_ast.specs.Tree.{Name, Label, Tree, node, Forest}
+use Rattle.swc_pass.specs.Pass.{PassSpec}
+use Rattle.swc_expr.specs.Simplified.{Simplified}
+use Rattle.swc_branch.specs.Removed.{Removed}
+use Rattle.swc_dce.specs.Shaken.{Told, Shaken}
+use Rattle.dce_rules.specs.Left.{declared_plainly, Entered, speaks_of_arguments, is_kept}
+use Rattle.dce_rules.specs.Uses.{calls_eval}
+
+-- one round: the expression simplifier, then the remover of dead branches, then the tree shaker
+pub record Round (told : Told) (t u : Tree) : Type 0 where
+  pub simplified : Tree
+  pub removed : Tree
+  pub simplifies : Simplified (mark_number told.mark) t simplified
+  pub removes : Removed (mark_number told.mark) simplified removed
+  pub shakes : Shaken told removed u
+
+abbrev pub round_spec : Told → PassSpec
+round_spec told = record { mark = Some told.mark; loads = told.keeps_imports; lowers = true; answers = Round told }
+
+-- a tree in which a round finds nothing to do
+pub record Settled (told : Told) (t : Tree) : Type 0 where
+  -- no operator and no condition is left on literals that tell what it gives, and no statement and no list that may go
+  pub simple : has_redex t ≡ false
+  -- where names of the top level go too, what declares a name plainly, in a place that is entered, is exported, retained or
+  -- named elsewhere: so no function is left that only its own body names
+  pub used : told.top_level ≡ true → calls_eval t ≡ false → speaks_of_arguments t ≡ false
+      → (l : Label) (ss : List Span) (cs : Forest) → Entered (node l ss cs) t → (x : Name) (xs : List Name) → declared_plainly l cs ≡ x ∷ xs → is_kept told.retained t x ≡ true
+
+-- a simplifier: what it was told, how many rounds it may run, and of its last run how many rounds it had, whether the last one
+-- of them changed nothing, and whether any changed more than spans
+pub record Simplifying : Type 0 where
+  pub told : Told
+  pub most : ℕ
+  pub rounds : ℕ
+  pub reached : Bool
+  pub changed : Bool

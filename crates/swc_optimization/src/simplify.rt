@@ -1,0 +1,21 @@
+//! The simplifier and its passes.
+ghost use Rattle.std.specs.Prelude.{◌≡◌, false};
+ghost use Rattle.swc_dce.specs.Configured.{told};
+
+pub use crate::config::Config;
+pub use crate::passes::Simplifier;
+use swc_ast::Mark;
+pub use swc_branch as branch;
+pub use swc_dce as dce;
+pub use swc_expr as expr;
+
+/// The simplifier of modules whose unresolved names bear the mark.
+pub fn simplifier(unresolved_mark: Mark, config: Config) -> Simplifier
+    ensures told { result.told ≡ told unresolved_mark config.dce }
+    ensures most { result.most ≡ config.max_rounds }
+    ensures rounds { result.rounds ≡ 0 }
+    ensures reached { result.reached ≡ false }
+    ensures changed { result.changed ≡ false }
+{
+    Simplifier::new(unresolved_mark, config)
+}
