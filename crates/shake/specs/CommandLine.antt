@@ -1,5 +1,5 @@
 -- What a command line asks for.
-use Rattle.std.specs.Prelude.{◌≡◌, ℕ, ◌^◌, Bool, true, false, ◌&&◌, ◌||◌, List, [], ◌∷◌, Option, None, Some, codes, nat_lt, if◌then◌else◌}
+use Rattle.std.specs.Prelude.{ℕ, ◌^◌, Bool, true, false, ◌&&◌, ◌||◌, List, [], ◌∷◌, Option, None, Some, codes, nat_lt, if◌then◌else◌}
 use Rattle.std.specs.Char.{is_ascii_digit}
 use Rattle.std.specs.List.{list_all}
 use Rattle.std.specs.Str.{bytes_eq}
@@ -7,7 +7,7 @@ use Rattle.std.specs.Option.{option_and_then, option_map}
 use Rattle.std.specs.Str.Parse.{digits_value}
 use Rattle.shake.specs.declared.options.Options.{Options}
 use Rattle.shake.specs.declared.options.PassName.{PassName}
-use Rattle.shake.specs.declared.options.PassName.TheVariants.{Expr, Branch}
+use Rattle.shake.specs.declared.options.PassName.TheVariants.{Expr, Branch, Dce, Simplify}
 
 -- the number that decimal digits alone write, where a usize holds it
 abbrev pub count_in : List ℕ → Option ℕ
@@ -19,6 +19,8 @@ abbrev pub pass_named : List ℕ → Option PassName
 pass_named word =
     if bytes_eq word (codes "expr") then Some Expr
     else if bytes_eq word (codes "branch") then Some Branch
+    else if bytes_eq word (codes "dce") then Some Dce
+    else if bytes_eq word (codes "simplify") then Some Simplify
     else None
 
 -- a pass with no options beside it
@@ -56,3 +58,17 @@ changed_by (word ∷ next ∷ words) o =
 abbrev pub command_line : List (List ℕ) → Option Options
 command_line [] = None
 command_line (name ∷ words) = option_and_then (λ p. changed_by words (defaults p)) (pass_named name)
+
+-- the operands of `--retain` among these words, in order; an operand is no option itself
+abbrev pub retained_among : List (List ℕ) → List (List ℕ)
+retained_among [] = []
+retained_among (word ∷ []) = []
+retained_among (word ∷ next ∷ words) =
+    if bytes_eq word (codes "--retain") then next ∷ retained_among words
+    else if takes_operand word then retained_among words
+    else retained_among (next ∷ words)
+
+-- the texts of names that a command line retains
+abbrev pub retained_in : List (List ℕ) → List (List ℕ)
+retained_in [] = []
+retained_in (name ∷ words) = retained_among words

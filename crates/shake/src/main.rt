@@ -8,19 +8,18 @@ ghost use Rattle.shake.specs.declared.fault.Fault.TheVariants.{Arguments, Output
 mod fault;
 mod input;
 mod options;
+mod passes;
 #[cfg(test)]
 mod tests;
 
 use fault::Fault;
-use options::{Options, PassName};
+use options::{Options, retained};
+use passes::run_pass;
 use std::alloc::Global;
 use std::env;
 use std::io::{ErrorKind, Read, Write};
 use std::process::ExitCode;
-use swc_ast::{Mark, Module, PassError};
-use swc_branch::dead_branch_remover;
-use swc_expr::{Config, expr_simplifier};
-use swc_pass::Pass;
+use swc_ast::Mark;
 use swc_text::{print, read_module};
 
 /// The program's work: `args` are the words behind its name. Reads a module from `reader`, with the unresolved mark 1,
@@ -62,7 +61,8 @@ fn work<R: Read, W: Write>(
     ensures unwritten { IfErr result (λ fault. fault ≢ Output → writer.new ≡ writer.old) }
 {
     let options = Options::parse(args).ok_or(Fault::Arguments)?;
-    let answer = answer(alloc, options, reader)?;
+    let retained = retained(alloc, args).map_err(|_| Fault::OutOfMemory)?;
+    let answer = answer(alloc, options, retained, reader)?;
     // The text is whole before the first write.
     writer
         .write_all(answer.as_bytes())
@@ -71,32 +71,19 @@ fn work<R: Read, W: Write>(
 }
 
 // The text of what the pass makes of the module read.
-fn answer<R: Read>(alloc: Global, options: Options, reader: &mut R) -> Result<String, Fault>
+fn answer<R: Read>(
+    alloc: Global,
+    options: Options,
+    retained: Vec<String>,
+    reader: &mut R,
+) -> Result<String, Fault>
     ensures { IfErr result (λ fault. fault ≢ Arguments × fault ≢ Output) }
 {
     let text = input::read_text(alloc, reader)?;
     let mark = Mark::new(1).unwrap();
     let module = read_module(alloc, text.as_str(), mark).map_err(Fault::Read)?;
-    let simpler = run_pass(alloc, options, mark, module).map_err(Fault::Pass)?;
+    let simpler = run_pass(alloc, options, retained, mark, module).map_err(Fault::Pass)?;
     print(alloc, &simpler).map_err(Fault::Print)
-}
-
-fn run_pass(
-    alloc: Global,
-    options: Options,
-    mark: Mark,
-    module: Module,
-) -> Result<Module, PassError> {
-    match options.pass {
-        PassName::Expr => {
-            let mut pass = expr_simplifier(mark, Config {});
-            pass.fold_module(alloc, module)
-        }
-        PassName::Branch => {
-            let mut pass = dead_branch_remover(mark);
-            pass.fold_module(alloc, module)
-        }
-    }
 }
 
 fn main(rt: HostRuntime) -> ExitCode {

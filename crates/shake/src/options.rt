@@ -1,14 +1,18 @@
 //! What the command line asks for.
-ghost use Rattle.std.specs.Prelude.{◌≡◌, string_bytes, map};
+ghost use Rattle.std.specs.Prelude.{◌≡◌, IfOk, string_bytes, map};
 ghost use Rattle.std.specs.List.{list_all};
 ghost use Rattle.std.specs.Char.{is_ascii_digit};
-ghost use Rattle.shake.specs.CommandLine.{count_in, pass_named, defaults, takes_operand, switched, valued, command_line};
+ghost use Rattle.shake.specs.CommandLine.{count_in, pass_named, defaults, takes_operand, switched, valued, command_line, retained_in};
+
+use std::alloc::{AllocError, Global};
 
 /// The passes that can be named.
 #[derive(Clone, Copy, Debug, PartialEq, Eq)]
 pub enum PassName {
     Expr,
     Branch,
+    Dce,
+    Simplify,
 }
 
 impl PassName {
@@ -19,6 +23,8 @@ impl PassName {
         match name {
             "expr" => Some(PassName::Expr),
             "branch" => Some(PassName::Branch),
+            "dce" => Some(PassName::Dce),
+            "simplify" => Some(PassName::Simplify),
             _ => None,
         }
     }
@@ -102,6 +108,27 @@ impl Options {
             _ => None,
         }
     }
+}
+
+/// The texts of names that stay: the operands of `--retain`, in order. Refuses only where memory is refused.
+pub fn retained(alloc: Global, args: &[String]) -> Result<Vec<String>, AllocError>
+    ensures { IfOk result (λ texts. map string_bytes texts.items ≡ retained_in (map string_bytes args.now)) }
+{
+    let mut texts = Vec::new(alloc);
+    let mut words = args.iter();
+    words.next();
+    while let Some(word) = words.next() {
+        let word = word.as_str();
+        if takes_operand(word) {
+            let Some(operand) = words.next() else {
+                break;
+            };
+            if word == "--retain" {
+                texts.push(operand.clone()?)?;
+            }
+        }
+    }
+    Ok(texts)
 }
 
 fn takes_operand(word: &str) -> bool
