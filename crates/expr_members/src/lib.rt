@@ -16,6 +16,3 @@ pub use members::fold_member;
 pub use properties::spread_properties;
 pub use sequences::fold_sequence;
 pub use spreads::spread_items;
-
-#[cfg(test)]
-mod tests;

@@ -1,0 +1,67 @@
+//! What is known of expressions.
+use anyhow::Context;
+use std::alloc::Global;
+use swc_ast::{Expr, Mark, Module, ModuleItem, Stmt, SyntaxContext};
+use swc_text::read_module;
+use swc_utils::{ExprCtx, ExprExt, is_literal};
+
+/// What is asked of an expression.
+#[derive(Clone, Copy)]
+pub enum Question {
+    Truth,
+    Number,
+    Text,
+    Type,
+    Facts,
+}
+
+/// What is known of the expression that a text ends with.
+pub fn known(alloc: Global, what: Question, text: &str, mark: Mark) -> anyhow::Result<String> {
+    let ctx = ExprCtx {
+        unresolved_ctxt: SyntaxContext::empty().apply_mark(mark),
+        is_unresolved_ref_safe: false,
+    };
+    let module = read_module(alloc, text, mark)?;
+    let expr = last_expression(&module).context("an expression at the end")?;
+    Ok(match what {
+        Question::Truth => {
+            let (purity, truth) = expr.cast_to_bool(&ctx);
+            let pure_truth = expr.as_pure_bool(&ctx);
+            format!(in alloc; "{purity:?}, {truth:?}; where pure: {pure_truth:?}")?
+        }
+        Question::Number => format!(in alloc; "{:?}", expr.as_pure_number(&ctx))?,
+        Question::Text => format!(in alloc; "{:?}", expr.as_pure_string(alloc, &ctx)?)?,
+        Question::Type => format!(in alloc; "{:?}", expr.get_type(&ctx))?,
+        Question::Facts => facts(alloc, expr, &ctx)?,
+    })
+}
+
+/// What holds of an expression.
+fn facts(alloc: Global, expr: &Expr, ctx: &ExprCtx) -> anyhow::Result<String> {
+    let mut told = String::new(alloc);
+    for (holds, word) in [
+        (expr.is_undefined(ctx), "undefined, "),
+        (expr.is_nan(ctx), "NaN, "),
+        (expr.is_global_ref_to(ctx, "Object"), "Object, "),
+        (expr.directness_maters(ctx), "its place matters, "),
+        (
+            expr.is_pure_callee(ctx),
+            "does nothing where it is called, ",
+        ),
+        (is_literal(expr), "literal, "),
+        (expr.may_have_side_effects(ctx), "has effects"),
+        (!expr.may_have_side_effects(ctx), "no effects"),
+    ] {
+        if holds {
+            told.push_str(word)?;
+        }
+    }
+    Ok(told)
+}
+
+fn last_expression(module: &Module) -> Option<&Expr> {
+    match module.body.last()? {
+        ModuleItem::Stmt(Stmt::Expr(node)) => Some(&node.expr),
+        _ => None,
+    }
+}

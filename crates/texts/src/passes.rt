@@ -1,0 +1,66 @@
+//! The passes that texts are given to.
+use anyhow::bail;
+use std::alloc::Global;
+use swc_ast::{Mark, Module, PassError, Script};
+use swc_branch::{Remover, dead_branch_remover};
+use swc_dce::{TreeShaker, dce};
+use swc_expr::{SimplifyExpr, expr_simplifier};
+use swc_optimization::{Config, Simplifier, simplifier};
+use swc_pass::{Pass, Repeated};
+
+/// A pass, or nothing but the printer.
+#[derive(Drop)]
+pub enum AnyPass {
+    Print,
+    Expr(SimplifyExpr),
+    Branch(Remover),
+    Dce(TreeShaker),
+    Simplify(Simplifier),
+}
+
+impl AnyPass {
+    /// The pass of a name.
+    pub fn parse(name: &str, mark: Mark, config: Config) -> anyhow::Result<AnyPass> {
+        Ok(match name {
+            "print" => AnyPass::Print,
+            "expr" => AnyPass::Expr(expr_simplifier(mark, config.expr)),
+            "branch" => AnyPass::Branch(dead_branch_remover(mark)),
+            "dce" => AnyPass::Dce(dce(config.dce, mark)),
+            "simplify" => AnyPass::Simplify(simplifier(mark, config)),
+            _ => bail!("{name} is no order"),
+        })
+    }
+
+    /// What becomes of a module.
+    pub fn run(&mut self, alloc: Global, module: &Module) -> Result<Module, PassError> {
+        match self {
+            AnyPass::Print => Ok(module.clone()?),
+            AnyPass::Expr(pass) => pass.run(alloc, module),
+            AnyPass::Branch(pass) => pass.run(alloc, module),
+            AnyPass::Dce(pass) => pass.run(alloc, module),
+            AnyPass::Simplify(pass) => pass.run(alloc, module),
+        }
+    }
+
+    /// What becomes of a script.
+    pub fn run_script(&mut self, alloc: Global, script: &Script) -> Result<Script, PassError> {
+        match self {
+            AnyPass::Print => Ok(script.clone()?),
+            AnyPass::Expr(pass) => pass.run_script(alloc, script),
+            AnyPass::Branch(pass) => pass.run_script(alloc, script),
+            AnyPass::Dce(pass) => pass.run_script(alloc, script),
+            AnyPass::Simplify(pass) => pass.run_script(alloc, script),
+        }
+    }
+
+    /// Whether the last run changed something.
+    pub fn changed(&self) -> bool {
+        match self {
+            AnyPass::Print => false,
+            AnyPass::Expr(pass) => pass.changed(),
+            AnyPass::Branch(pass) => pass.changed(),
+            AnyPass::Dce(pass) => pass.changed(),
+            AnyPass::Simplify(pass) => pass.changed(),
+        }
+    }
+}

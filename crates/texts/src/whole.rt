@@ -1,0 +1,110 @@
+//! What becomes of whole texts.
+use crate::passes::AnyPass;
+use std::alloc::Global;
+use std::fmt::Write;
+use swc_ast::{Mark, Module};
+use swc_debug::{is_script_valid, is_valid};
+use swc_resolved::{is_core, is_resolved, is_script_core, is_script_resolved};
+use swc_text::{print, print_script, read_module, read_script};
+
+/// What is told of a text as a module.
+pub fn of_module(
+    alloc: Global,
+    pass: &mut AnyPass,
+    text: &str,
+    mark: Mark,
+    counts_rounds: bool,
+) -> anyhow::Result<String> {
+    let module = match read_module(alloc, text, mark) {
+        Ok(module) => module,
+        Err(error) => return Ok(format!(in alloc; "error: {error}\n")?),
+    };
+    let answer = pass.run(alloc, &module)?;
+    let printed = print(alloc, &answer)?;
+    let printed = printed.as_str();
+    let mut told = become_of(alloc, pass, text, printed, counts_rounds)?;
+    if pass.changed() == (answer == module) {
+        told.push_str("WRONG: what it tells of its change\n")?;
+    }
+    if !(is_resolved(&answer, mark)? && is_core(&answer)? && is_valid(&answer)) {
+        told.push_str("WRONG: the answer is no tree of the core\n")?;
+    }
+    let Ok(again) = read_module(alloc, printed, mark) else {
+        told.push_str("WRONG: the answer isn't read again\n")?;
+        return Ok(told);
+    };
+    if print(alloc, &again)?.as_str() != printed {
+        told.push_str("WRONG: the answer is printed otherwise once it is read\n")?;
+    }
+    if !is_settled(alloc, pass, &again)? {
+        told.push_str("WRONG: another run changes the answer\n")?;
+    }
+    Ok(told)
+}
+
+/// Whether another run has nothing to do, where the last round of the last run had nothing to do.
+fn is_settled(alloc: Global, pass: &mut AnyPass, module: &Module) -> anyhow::Result<bool> {
+    match pass {
+        AnyPass::Simplify(pass) if pass.reached() => {
+            let answer = pass.run(alloc, module)?;
+            Ok(answer == *module && !pass.changed() && pass.reached() && pass.rounds() == 1)
+        }
+        _ => Ok(true),
+    }
+}
+
+/// What is told of a text as a script.
+pub fn of_script(
+    alloc: Global,
+    pass: &mut AnyPass,
+    text: &str,
+    mark: Mark,
+    counts_rounds: bool,
+) -> anyhow::Result<String> {
+    let script = match read_script(alloc, text, mark) {
+        Ok(script) => script,
+        Err(error) => return Ok(format!(in alloc; "error: {error}\n")?),
+    };
+    let answer = pass.run_script(alloc, &script)?;
+    let printed = print_script(alloc, &answer)?;
+    let mut told = become_of(alloc, pass, text, printed.as_str(), counts_rounds)?;
+    if pass.changed() == (answer == script) {
+        told.push_str("WRONG: what it tells of its change\n")?;
+    }
+    let is_resolved = is_script_resolved(&answer, mark)?;
+    if !(is_resolved && is_script_core(&answer)? && is_script_valid(&answer)) {
+        told.push_str("WRONG: the answer is no tree of the core\n")?;
+    }
+    Ok(told)
+}
+
+/// What a text becomes, by the answer's text and by what the pass tells.
+fn become_of(
+    alloc: Global,
+    pass: &AnyPass,
+    text: &str,
+    printed: &str,
+    counts_rounds: bool,
+) -> anyhow::Result<String> {
+    let mut told = String::new(alloc);
+    let changed = pass.changed();
+    if !changed && printed.strip_suffix("\n").unwrap_or("") == text {
+        told.push_str("stays\n")?;
+    } else {
+        told.push_str(printed)?;
+        if !(changed || matches!(pass, AnyPass::Print)) {
+            told.push_str("unchanged\n")?;
+        }
+    }
+    if let AnyPass::Simplify(pass) = pass {
+        if counts_rounds {
+            write!(told, "rounds: {}, ", pass.rounds())?;
+        }
+        told.push_str(if pass.reached() {
+            "reached\n"
+        } else {
+            "not reached\n"
+        })?;
+    }
+    Ok(told)
+}
