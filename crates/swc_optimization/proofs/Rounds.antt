@@ -7,12 +7,12 @@ use Rattle.swc_ast.specs.Resolved.{IsResolved}
 use Rattle.swc_ast.specs.Run.{Same}
 use Rattle.swc_ast.specs.Tree.{Tree}
 use Rattle.swc_ast.specs.Valid.{valid}
-use Rattle.swc_meaning.proofs.Observations.{same_itself, same_trans}
+use Rattle.swc_meaning.proofs.Observations.{same_trans}
 use Rattle.swc_pass.specs.Chain.{MarksAgree, Chained, chained}
 use Rattle.swc_pass.specs.ChainLaws.{chained_lawful, lighter_on}
 use Rattle.swc_pass.specs.Pass.{PassSpec, IsLawful}
 use Rattle.swc_pass.specs.Repeat.{Rounds, none, changing, last, Rounded, Repeats}
-use Rattle.swc_pass.specs.RepeatLaws.{rounds_give}
+use Rattle.swc_pass.specs.RepeatLaws.{repeated_lawful, rounds_give}
 use Rattle.swc_expr.specs.Simplified.{Simplified, simplify_spec, simplify_lawful}
 use Rattle.swc_expr.proofs.SimplifyLaw.{tells as simplify_tells}
 use Rattle.swc_branch.specs.Removed.{Removed, remove_spec, remove_lawful}
@@ -108,17 +108,12 @@ rows_of_one told most t n b u r =
 pub rows_are_rounds : (s : (Mark × Mark) × Told) (most : ℕ) (t : Tree) (n : ℕ) (b : Bool) (u : Tree) → HasOneMark s → Repeats (row_spec s) most t n b u → Rounded (round_spec s.1) most t n b u
 rows_are_rounds s most t n b u e r = rows_of_one s.1 most t n b u (subst (λ m. Repeats (row_spec (m, s.1)) most t n b u) e r)
 
+pub rows_same : (s : (Mark × Mark) × Told) (most : ℕ) (t : Tree) (n : ℕ) (b : Bool) (u : Tree) → HasOneMark s → Repeats (row_spec s) most t n b u → IsResolved (mark_number s.1.mark) t → IsCore t → Same (mark_number s.1.mark) s.1.keeps_imports t u
+rows_same s most t n b u e r = (repeated_lawful (row_lawful s.1) most).same (mark_number s.1.mark) t u refl (n, b, subst (λ m. Repeats (row_spec (m, s.1)) most t n b u) e r)
+
 -- what each round keeps, rounds keep
 module _ {told : Told} (P : Tree → Type 0) (keeps : (t u : Tree) → Round told t u → P t → P u) where
   pub rounds_keep : {t u : Tree} {n : ℕ} {b : Bool} → Rounds (Round told) t n b u → P t → P u
   rounds_keep none p = p
   rounds_keep (changing {u = u} {v = v} s a d) p = keeps u v a (rounds_keep s p)
   rounds_keep (last s a) p = rounds_keep s p
-
--- rounds do the same
-pub rounds_same : (told : Told) {t u : Tree} {n : ℕ} {b : Bool} → Rounds (Round told) t n b u → IsResolved (mark_number told.mark) t → IsCore t → Same (mark_number told.mark) told.keeps_imports t u
-rounds_same told {t} {u} s r c =
-    let m = mark_number told.mark in
-    let l = told.keeps_imports in
-    let p = rounds_keep (λ x. IsResolved m x × IsCore x × Same m l t x) (λ v w a q. (round_resolved told m v w a q.0, round_core told v w a q.1, same_trans m l t v w q.2 (round_same told m v w refl a q.0 q.1))) s (r, c, same_itself m l t) in
-    p.2

@@ -12,7 +12,7 @@ use Rattle.swc_pass.specs.Repeat.{Rounds, Rounded, Repeats}
 use Rattle.swc_dce.specs.Shaken.{Told}
 use Rattle.swc_optimization.specs.Laws.{row_spec, HasOneMark}
 use Rattle.swc_optimization.specs.Simplifier.{Round, round_spec, Settled}
-use Rattle.swc_optimization.proofs.Rounds.{rows_are_rounds, rounds_keep, rounds_same, round_resolved, round_valid, round_core}
+use Rattle.swc_optimization.proofs.Rounds.{rows_are_rounds, rounds_keep, rows_same, round_resolved, round_valid, round_core}
 use Rattle.swc_optimization.proofs.Settling.{reached_settled}
 
 module _ {A E : Type 0} (f : A → Tree) (r : Result A E) (s : (Mark × Mark) × Told) (one : HasOneMark s) (most : ℕ) (t : Tree) (n : ℕ) (b : Bool) (a : IfOk r (λ x. Repeats (row_spec s) most t n b (f x))) where
@@ -20,7 +20,7 @@ module _ {A E : Type 0} (f : A → Tree) (r : Result A E) (s : (Mark × Mark) ×
   run_rounded = IfOk-weaker r _ _ (λ x k. rows_are_rounds s most t n b (f x) one k) a
 
   pub run_same : IfOk r (λ x. IsResolved (mark_number s.1.mark) t → IsCore t → Same (mark_number s.1.mark) s.1.keeps_imports t (f x))
-  run_same = IfOk-weaker r _ _ (λ x k. rounds_same s.1 k.rounds) run_rounded
+  run_same = IfOk-weaker r _ _ (λ x k. rows_same s most t n b (f x) one k) a
 
   pub run_resolved : (m : ℕ) → IfOk r (λ x. IsResolved m t → IsResolved m (f x))
   run_resolved m = IfOk-weaker r _ _ (λ x k. rounds_keep (IsResolved m) (round_resolved s.1 m) k.rounds) run_rounded
