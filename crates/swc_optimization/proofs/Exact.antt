@@ -4,7 +4,7 @@ use Rattle.swc_ast.specs.Tree.{Tree}
 use Rattle.swc_ast.specs.Weight.{weight}
 use Rattle.swc_pass.specs.Chain.{GivesBack, input, other, Chained, chained}
 use Rattle.swc_pass.specs.Lighter.{Falls, falls, falls_on, falls_gives}
-use Rattle.swc_pass.specs.Pass.{PassSpec, IsLawful, SameBare, TellsChange}
+use Rattle.swc_pass.specs.Pass.{PassSpec, IsLawful, TellsChange}
 
 -- each answer is equal or lighter
 abbrev pub Settles : PassSpec → Type 0

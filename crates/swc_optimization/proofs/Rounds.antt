@@ -1,5 +1,5 @@
 -- The three passes in a row, again and again, are rounds, and a round is a lawful pass.
-use Rattle.std.proofs.Common.{ℕ, Bool, true, false, ◌≡◌, refl, sym, subst, Some}
+use Rattle.std.proofs.Common.{ℕ, Bool, true, ◌≡◌, refl, sym, subst, Some}
 use Rattle.swc_ast.specs.declared.names.Mark.{Mark}
 use Rattle.swc_ast.specs.Marks.{mark_number}
 use Rattle.swc_ast.specs.Core.{IsCore}
@@ -8,12 +8,12 @@ use Rattle.swc_ast.specs.Run.{Same}
 use Rattle.swc_ast.specs.Tree.{Tree}
 use Rattle.swc_ast.specs.Valid.{valid}
 use Rattle.swc_meaning.proofs.Observations.{same_trans}
-use Rattle.swc_pass.specs.Chain.{MarksAgree, Chained, chained}
+use Rattle.swc_pass.specs.Chain.{MarksAgree, chained}
 use Rattle.swc_pass.specs.ChainLaws.{chained_lawful, lighter_on}
 use Rattle.swc_pass.specs.Pass.{PassSpec, IsLawful}
 use Rattle.swc_pass.specs.Repeat.{Rounds, none, changing, last, Rounded, Repeats}
 use Rattle.swc_pass.specs.RepeatLaws.{repeated_lawful, rounds_give}
-use Rattle.swc_expr.specs.Simplified.{Simplified, simplify_spec, simplify_lawful}
+use Rattle.swc_expr.specs.Simplified.{simplify_spec, simplify_lawful}
 use Rattle.swc_expr.proofs.SimplifyLaw.{tells as simplify_tells}
 use Rattle.swc_branch.specs.Removed.{Removed, remove_spec, remove_lawful}
 use Rattle.swc_branch.proofs.RemoveLaw.{tells as remove_tells}

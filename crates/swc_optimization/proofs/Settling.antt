@@ -1,12 +1,10 @@
 -- What a round leaves as it is, is settled.
-use Rattle.std.proofs.Common.{ℕ, Bool, true, false, ◌≡◌, ◌≤◌, ◌<◌, not, ◌&&◌, ◌||◌, if◌then◌else◌, List, refl, sym, ap, subst, arith}
+use Rattle.std.proofs.Common.{ℕ, Bool, true, false, ◌≡◌, if◌then◌else◌, refl, sym, subst, arith}
 use Rattle.std.proofs.lemmas.Bool.{or_parts, or_from}
-use Rattle.swc_ast.specs.declared.Span.{Span}
 use Rattle.swc_ast.specs.Marks.{mark_number}
-use Rattle.swc_ast.specs.Redex.{is_delete, own_redex, has_redex}
-use Rattle.swc_ast.specs.Tree.{Label, Unary, Binary, Cond, Tree, node, Forest, ε, ◌⊳◌, bare}
+use Rattle.swc_ast.specs.Redex.{is_delete}
+use Rattle.swc_ast.specs.Tree.{Label, Unary, Binary, Cond, Tree, node, Forest, ε, ◌⊳◌}
 use Rattle.swc_ast.specs.Valid.{valid}
-use Rattle.swc_ast.specs.Weight.{weight}
 use Rattle.swc_static.specs.Free.{fold_redex, has_kind, any_kind}
 use Rattle.swc_static.proofs.Free.{free_of_both}
 use Rattle.expr_rules.specs.Replaced.{expr_redex}
