@@ -1,18 +1,21 @@
 //! What an expression is and what its children are.
+#![tactic(auto, unfolding(crate::specs::Nodes::children_forest))]
+
 ghost use Rattle.std.specs.Prelude.{◌≡◌, []};
 ghost use Rattle.swc_ast.specs.Tree.{node, Unary, ε, ◌⊳◌};
 ghost use Rattle.swc_ast.specs.Expressions.{key_tree, member_tree, param_tree, unary_tree, update_tree, assign_tree, call_tree};
 ghost use Rattle.swc_ast.specs.Parts.{lit_tree};
-ghost use Rattle.swc_ast.specs.Views.{expr_tree, prop_or_spread_tree, prop_tree, arrow_body_tree};
-ghost use Rattle.swc_visit.specs.Nodes.{node_tree, Opens, IsPart};
+ghost use Rattle.swc_ast.specs.Views.{expr_tree, prop_or_spread_tree, prop_tree};
+ghost use Rattle.swc_visit.specs.Nodes.{Opens, IsPart};
 
-use crate::children::NodeList;
+use crate::children::Children;
 use crate::kind::Kind;
+use crate::lists::NodeList;
 use crate::node::Node;
 use crate::opened::Opened;
 use swc_ast::{
-    AssignExpr, AssignTarget, BlockStmtOrExpr, CallExpr, Expr, Ident, Lit, MemberExpr, MemberProp,
-    Pat, Prop, PropName, PropOrSpread, UnaryExpr, UnaryOp, UpdateExpr,
+    AssignExpr, AssignTarget, CallExpr, Expr, Ident, Lit, MemberExpr, MemberProp, Pat, Prop,
+    PropName, PropOrSpread, UnaryExpr, UnaryOp, UpdateExpr,
 };
 
 /// What an expression is where it may be part of the node round it.
@@ -49,54 +52,31 @@ pub(crate) fn part_of<'a>(e: &'a Expr) -> Part<'a>
     }
 }
 
-#[tactic(auto, using(swc_ast::proofs::Equations::forms))]
+#[tactic(auto, using(swc_ast::proofs::Equations::forms), unfolding(crate::specs::Nodes::children_forest))]
 pub(crate) fn open_expr<'a>(e: &'a Expr) -> Opened<'a>
     ensures { Opens (expr_tree e.now) result }
 {
     match e {
         Expr::This(_) => Opened::leaf(Kind::This),
-        Expr::Array(n) => Opened::listed(Kind::Array(&n.elems), NodeList::Items(&n.elems, 0)),
-        Expr::Object(n) => Opened::listed(Kind::Object, NodeList::Props(&n.props, 0)),
-        Expr::Fn(n) => Opened::two(
+        Expr::Array(n) => Opened::new(Kind::Array(&n.elems), Children::Items(&n.elems, 0)),
+        Expr::Object(n) => Opened::listed(Kind::Object, NodeList::Props(&n.props)),
+        Expr::Fn(n) => Opened::new(
             Kind::Fn(&n.ident),
-            Node::Params(&n.function.params),
-            Node::Body(&n.function.body),
-            NodeList::Empty,
+            Children::Function(&n.function.params, &n.function.body),
         ),
         Expr::Unary(n) => open_unary(n),
         Expr::Update(n) => open_update(n),
-        Expr::Bin(n) => Opened::two(
-            Kind::Binary(n.op),
-            Node::Expr(&n.left),
-            Node::Expr(&n.right),
-            NodeList::Empty,
-        ),
+        Expr::Bin(n) => Opened::new(Kind::Binary(n.op), Children::Two(&n.left, &n.right)),
         Expr::Assign(n) => open_assign(n),
         Expr::Member(n) => open_member(n),
-        Expr::Cond(n) => Opened::three(
-            Kind::Cond,
-            Node::Expr(&n.test),
-            Node::Expr(&n.cons),
-            Node::Expr(&n.alt),
-        ),
+        Expr::Cond(n) => Opened::new(Kind::Cond, Children::Three(&n.test, &n.cons, &n.alt)),
         Expr::Call(n) => open_call(n),
-        Expr::New(n) => {
-            Opened::one(
-                Kind::New,
-                Node::Expr(&n.callee),
-                NodeList::Exprs(&n.args, 0),
-            )
-        }
-        Expr::Seq(n) => Opened::listed(Kind::Seq, NodeList::Exprs(&n.exprs, 0)),
+        Expr::New(n) => Opened::new(Kind::New, Children::Call(&n.callee, &n.args)),
+        Expr::Seq(n) => Opened::listed(Kind::Seq, NodeList::Exprs(&n.exprs)),
         Expr::Ident(n) => Opened::leaf(Kind::Read(n)),
         Expr::Lit(n) => open_lit(n),
-        Expr::Tpl(n) => Opened::listed(Kind::Template(&n.quasis), NodeList::Exprs(&n.exprs, 0)),
-        Expr::Arrow(n) => Opened::two(
-            Kind::Arrow,
-            Node::Params(&n.params),
-            arrow_body(&n.body),
-            NodeList::Empty,
-        ),
+        Expr::Tpl(n) => Opened::listed(Kind::Template(&n.quasis), NodeList::Exprs(&n.exprs)),
+        Expr::Arrow(n) => Opened::new(Kind::Arrow, Children::Arrow(&n.params, &n.body)),
         Expr::Invalid(_) => Opened::leaf(Kind::Invalid),
     }
 }
@@ -109,16 +89,6 @@ fn open_lit<'a>(n: &'a Lit) -> Opened<'a>
         Lit::Bool(n) => Opened::leaf(Kind::BoolLit(n.value)),
         Lit::Null(_) => Opened::leaf(Kind::NullLit),
         Lit::Num(n) => Opened::leaf(Kind::NumLit(n.value)),
-    }
-}
-
-#[tactic(auto, using(swc_ast::proofs::Equations::forms))]
-fn arrow_body<'a>(n: &'a BlockStmtOrExpr) -> Node<'a>
-    ensures { node_tree result ≡ arrow_body_tree n.now }
-{
-    match n {
-        BlockStmtOrExpr::BlockStmt(n) => Node::Body(n),
-        BlockStmtOrExpr::Expr(n) => Node::Expr(n),
     }
 }
 
@@ -143,7 +113,7 @@ fn open_unary<'a>(n: &'a UnaryExpr) -> Opened<'a>
 fn operand<'a>(n: &'a UnaryExpr) -> Opened<'a>
     ensures { Opens (node (Unary n.now.op) [] (expr_tree n.now.arg.value ⊳ ε)) result }
 {
-    Opened::one(Kind::Unary(n.op), Node::Expr(&n.arg), NodeList::Empty)
+    Opened::new(Kind::Unary(n.op), Children::One(Node::Expr(&n.arg)))
 }
 
 fn open_update<'a>(n: &'a UpdateExpr) -> Opened<'a>
@@ -152,16 +122,13 @@ fn open_update<'a>(n: &'a UpdateExpr) -> Opened<'a>
     match &n.arg {
         AssignTarget::Ident(i) => Opened::leaf(Kind::Update(n.op, n.prefix, i)),
         AssignTarget::Member(m) => match &m.prop {
-            MemberProp::Ident(k) => Opened::one(
+            MemberProp::Ident(k) => Opened::new(
                 Kind::UpdateDot(n.op, n.prefix, k),
-                Node::Expr(&m.obj),
-                NodeList::Empty,
+                Children::One(Node::Expr(&m.obj)),
             ),
-            MemberProp::Computed(k) => Opened::two(
+            MemberProp::Computed(k) => Opened::new(
                 Kind::UpdateIndex(n.op, n.prefix),
-                Node::Expr(&m.obj),
-                Node::Expr(&k.expr),
-                NodeList::Empty,
+                Children::Two(&m.obj, &k.expr),
             ),
         },
     }
@@ -170,21 +137,19 @@ fn open_update<'a>(n: &'a UpdateExpr) -> Opened<'a>
 fn open_assign<'a>(n: &'a AssignExpr) -> Opened<'a>
     ensures { Opens (assign_tree expr_tree n.now) result }
 {
-    let value = Node::Expr(&n.right);
     match &n.left {
-        AssignTarget::Ident(i) => Opened::one(Kind::Assign(n.op, i), value, NodeList::Empty),
+        AssignTarget::Ident(i) => Opened::new(
+            Kind::Assign(n.op, i),
+            Children::One(Node::Expr(&n.right)),
+        ),
         AssignTarget::Member(m) => match &m.prop {
-            MemberProp::Ident(k) => Opened::two(
+            MemberProp::Ident(k) => Opened::new(
                 Kind::AssignDot(n.op, k),
-                Node::Expr(&m.obj),
-                value,
-                NodeList::Empty,
+                Children::Two(&m.obj, &n.right),
             ),
-            MemberProp::Computed(k) => Opened::three(
+            MemberProp::Computed(k) => Opened::new(
                 Kind::AssignIndex(n.op),
-                Node::Expr(&m.obj),
-                Node::Expr(&k.expr),
-                value,
+                Children::Three(&m.obj, &k.expr, &n.right),
             ),
         },
     }
@@ -194,70 +159,56 @@ fn open_member<'a>(n: &'a MemberExpr) -> Opened<'a>
     ensures { Opens (member_tree expr_tree n.now) result }
 {
     match &n.prop {
-        MemberProp::Ident(k) => { Opened::one(Kind::Dot(k), Node::Expr(&n.obj), NodeList::Empty) }
-        MemberProp::Computed(k) => Opened::two(
-            Kind::Index,
-            Node::Expr(&n.obj),
-            Node::Expr(&k.expr),
-            NodeList::Empty,
-        ),
+        MemberProp::Ident(k) => Opened::new(Kind::Dot(k), Children::One(Node::Expr(&n.obj))),
+        MemberProp::Computed(k) => Opened::new(Kind::Index, Children::Two(&n.obj, &k.expr)),
     }
 }
 
 fn open_call<'a>(n: &'a CallExpr) -> Opened<'a>
     ensures { Opens (call_tree expr_tree n.now) result }
 {
-    let args = NodeList::Exprs(&n.args, 0);
     match part_of(&n.callee) {
         Part::Member(m) => match &m.prop {
-            MemberProp::Ident(k) => Opened::one(Kind::CallDot(k), Node::Expr(&m.obj), args),
-            MemberProp::Computed(k) => Opened::two(
+            MemberProp::Ident(k) => Opened::new(Kind::CallDot(k), Children::Call(&m.obj, &n.args)),
+            MemberProp::Computed(k) => Opened::new(
                 Kind::CallIndex,
-                Node::Expr(&m.obj),
-                Node::Expr(&k.expr),
-                args,
+                Children::CallIndex(&m.obj, &k.expr, &n.args),
             ),
         },
         Part::Name(i) => {
             if i.sym.as_str() == "eval" {
-                Opened::listed(Kind::CallEval(i), args)
+                Opened::listed(Kind::CallEval(i), NodeList::Exprs(&n.args))
             } else {
-                Opened::one(Kind::Call, Node::Expr(&n.callee), args)
+                Opened::new(Kind::Call, Children::Call(&n.callee, &n.args))
             }
         }
-        Part::Whole => Opened::one(Kind::Call, Node::Expr(&n.callee), args),
+        Part::Whole => Opened::new(Kind::Call, Children::Call(&n.callee, &n.args)),
     }
 }
 
-#[tactic(auto, using(swc_ast::proofs::Equations::forms))]
+#[tactic(auto, using(swc_ast::proofs::Equations::forms), unfolding(crate::specs::Nodes::children_forest))]
 pub(crate) fn open_prop_or_spread<'a>(n: &'a PropOrSpread) -> Opened<'a>
     ensures { Opens (prop_or_spread_tree n.now) result }
 {
     match n {
-        PropOrSpread::Spread(n) => {
-            Opened::one(Kind::SpreadRecord, Node::Expr(&n.expr), NodeList::Empty)
-        }
+        PropOrSpread::Spread(n) => Opened::new(
+            Kind::SpreadRecord,
+            Children::One(Node::Expr(&n.expr)),
+        ),
         PropOrSpread::Prop(n) => open_prop(n),
     }
 }
 
-#[tactic(auto, using(swc_ast::proofs::Equations::forms))]
+#[tactic(auto, using(swc_ast::proofs::Equations::forms), unfolding(crate::specs::Nodes::children_forest))]
 fn open_prop<'a>(n: &'a Prop) -> Opened<'a>
     ensures { Opens (prop_tree n.now) result }
 {
     match n {
         Prop::Shorthand(n) => Opened::leaf(Kind::Shorthand(n)),
-        Prop::KeyValue(n) => Opened::two(
-            Kind::KeyValue,
-            Node::Key(&n.key),
-            Node::Expr(&n.value),
-            NodeList::Empty,
-        ),
-        Prop::Method(n) => Opened::three(
+        Prop::KeyValue(n) => Opened::new(Kind::KeyValue, Children::KeyValue(&n.key, &n.value)),
+        Prop::Method(n) => Opened::new(
             Kind::Method,
-            Node::Key(&n.key),
-            Node::Params(&n.function.params),
-            Node::Body(&n.function.body),
+            Children::Method(&n.key, &n.function.params, &n.function.body),
         ),
     }
 }
@@ -269,9 +220,7 @@ pub(crate) fn open_key<'a>(n: &'a PropName) -> Opened<'a>
         PropName::Ident(n) => Opened::leaf(Kind::NameKey(n)),
         PropName::Str(n) => Opened::leaf(Kind::TextKey(n)),
         PropName::Num(n) => Opened::leaf(Kind::NumberKey(n.value)),
-        PropName::Computed(n) => {
-            Opened::one(Kind::ComputedKey, Node::Expr(&n.expr), NodeList::Empty)
-        }
+        PropName::Computed(n) => Opened::new(Kind::ComputedKey, Children::One(Node::Expr(&n.expr))),
     }
 }
 
@@ -280,8 +229,6 @@ pub(crate) fn open_param<'a>(n: &'a Pat) -> Opened<'a>
 {
     match n {
         Pat::Ident(n) => Opened::leaf(Kind::Param(n)),
-        Pat::Assign(n) => {
-            Opened::one(Kind::Param(&n.left), Node::Expr(&n.right), NodeList::Empty)
-        }
+        Pat::Assign(n) => Opened::new(Kind::Param(&n.left), Children::One(Node::Expr(&n.right))),
     }
 }

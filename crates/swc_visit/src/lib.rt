@@ -5,15 +5,17 @@ mod children;
 mod class;
 mod expressions;
 mod kind;
+mod lists;
 mod modules;
 mod node;
 mod opened;
 mod statements;
 mod weights;
 
-pub use children::{Children, NodeList};
+pub use children::Children;
 pub use class::Class;
 pub use kind::Kind;
+pub use lists::NodeList;
 pub use modules::open_module_decl;
 pub use node::Node;
 pub use opened::Opened;

@@ -1,11 +1,15 @@
 //! What a node is and what its children are; modules and scripts.
-ghost use Rattle.std.specs.Prelude.{◌≡◌};
-ghost use Rattle.swc_ast.specs.Modules.{import_specifier_tree, export_specifier_tree, module_decl_tree, item_tree};
-ghost use Rattle.swc_visit.specs.Nodes.{node_tree, Opens};
+#![tactic(auto, unfolding(crate::specs::Nodes::children_forest))]
 
-use crate::children::{NodeList, item_at};
+ghost use Rattle.std.specs.Prelude.{◌≡◌, IfSome, IsNone};
+ghost use Rattle.swc_ast.specs.Parts.{absent};
+ghost use Rattle.swc_ast.specs.Modules.{import_specifier_tree, export_specifier_tree, module_decl_tree, item_tree};
+ghost use Rattle.swc_visit.specs.Nodes.{node_tree, node_at, Opens};
+
+use crate::children::Children;
 use crate::expressions::{open_expr, open_key, open_param, open_prop_or_spread};
 use crate::kind::Kind;
+use crate::lists::{NodeList, item_at};
 use crate::node::Node;
 use crate::opened::Opened;
 use crate::statements::{open_decl, open_declarator, open_stmt, open_var};
@@ -13,59 +17,48 @@ use swc_ast::{ExportNamedSpecifier, ImportSpecifier, ModuleDecl, ModuleItem};
 
 impl<'a> Node<'a> {
     /// What the node is, and its children.
-    #[tactic(auto, using(crate::proofs::Cases::case_body))]
+    #[tactic(auto, using(crate::proofs::Cases::case_body), unfolding(crate::specs::Nodes::children_forest))]
     pub fn open(self) -> Opened<'a>
         ensures { Opens (node_tree self.entry) result }
     {
         match self {
-            Node::Module(n) => Opened::listed(Kind::Module, NodeList::ModuleItems(&n.body, 0)),
-            Node::Script(n) => Opened::listed(Kind::Script, NodeList::Stmts(&n.body, 0)),
-            Node::Item(xs, at) => match item_at(xs, at) {
-                Some((n, _)) => open_item(n),
-                None => Opened::leaf(Kind::Absent),
-            },
-            Node::ImportSpecifier(xs, at) => match item_at(xs, at) {
-                Some((n, _)) => open_import_specifier(n),
-                None => Opened::leaf(Kind::Absent),
-            },
-            Node::ExportSpecifier(xs, at) => match item_at(xs, at) {
-                Some((n, _)) => open_export_specifier(n),
+            Node::Module(n) => Opened::listed(Kind::Module, NodeList::ModuleItems(&n.body)),
+            Node::Script(n) => Opened::listed(Kind::Script, NodeList::Stmts(&n.body)),
+            Node::At(list, at) => match open_at(list, at) {
+                Some(opened) => opened,
                 None => Opened::leaf(Kind::Absent),
             },
             Node::Decl(n) => open_decl(n),
             Node::VarDecl(n) => open_var(n),
-            Node::Declarator(kind, xs, at) => match item_at(xs, at) {
-                Some((n, _)) => open_declarator(kind, n),
-                None => Opened::leaf(Kind::Absent),
-            },
             Node::Stmt(n) => open_stmt(n),
-            Node::StmtAt(xs, at) => match item_at(xs, at) {
-                Some((n, _)) => open_stmt(n),
-                None => Opened::leaf(Kind::Absent),
-            },
-            Node::Block(n) => Opened::listed(Kind::Block, NodeList::Stmts(&n.stmts, 0)),
+            Node::Block(n) => Opened::listed(Kind::Block, NodeList::Stmts(&n.stmts)),
             Node::CaseBody(xs, at) => match item_at(xs, at) {
-                Some((n, _)) => Opened::listed(Kind::CaseBody, NodeList::Stmts(&n.cons, 0)),
+                Some((n, _)) => Opened::listed(Kind::CaseBody, NodeList::Stmts(&n.cons)),
                 None => Opened::leaf(Kind::Absent),
             },
             Node::Expr(n) => open_expr(n),
-            Node::ExprAt(xs, at) => match item_at(xs, at) {
-                Some((n, _)) => open_expr(n),
-                None => Opened::leaf(Kind::Absent),
-            },
-            Node::Prop(xs, at) => match item_at(xs, at) {
-                Some((n, _)) => open_prop_or_spread(n),
-                None => Opened::leaf(Kind::Absent),
-            },
             Node::Key(n) => open_key(n),
-            Node::Params(n) => Opened::listed(Kind::Params, NodeList::Params(n, 0)),
-            Node::Param(xs, at) => match item_at(xs, at) {
-                Some((n, _)) => open_param(n),
-                None => Opened::leaf(Kind::Absent),
-            },
-            Node::Body(n) => Opened::listed(Kind::Body, NodeList::Stmts(&n.stmts, 0)),
+            Node::Params(n) => Opened::listed(Kind::Params, NodeList::Params(n)),
+            Node::Body(n) => Opened::listed(Kind::Body, NodeList::Stmts(&n.stmts)),
             Node::Absent => Opened::leaf(Kind::Absent),
         }
+    }
+}
+
+/// What the node at a place of a list is, if one stands there.
+fn open_at<'a>(list: NodeList<'a>, at: usize) -> Option<Opened<'a>>
+    ensures there { IfSome result (λ o. Opens (node_at list.entry at) o) }
+    ensures absent { IsNone result → node_at list.entry at ≡ absent }
+{
+    match list {
+        NodeList::ModuleItems(xs) => Some(open_item(item_at(xs, at)?.0)),
+        NodeList::ImportSpecifiers(xs) => Some(open_import_specifier(item_at(xs, at)?.0)),
+        NodeList::ExportSpecifiers(xs) => Some(open_export_specifier(item_at(xs, at)?.0)),
+        NodeList::Declarators(kind, xs) => Some(open_declarator(kind, item_at(xs, at)?.0)),
+        NodeList::Stmts(xs) => Some(open_stmt(item_at(xs, at)?.0)),
+        NodeList::Exprs(xs) => Some(open_expr(item_at(xs, at)?.0)),
+        NodeList::Props(xs) => Some(open_prop_or_spread(item_at(xs, at)?.0)),
+        NodeList::Params(xs) => Some(open_param(item_at(xs, at)?.0)),
     }
 }
 
@@ -79,35 +72,31 @@ fn open_item<'a>(n: &'a ModuleItem) -> Opened<'a>
 }
 
 /// What a module declaration is, and its children.
-#[tactic(auto, using(swc_ast::proofs::Equations::forms))]
+#[tactic(auto, using(swc_ast::proofs::Equations::forms), unfolding(crate::specs::Nodes::children_forest))]
 pub fn open_module_decl<'a>(n: &'a ModuleDecl) -> Opened<'a>
     ensures { Opens (module_decl_tree n.now) result }
 {
     match n {
         ModuleDecl::Import(n) => Opened::listed(
             Kind::Import(&n.src),
-            NodeList::ImportSpecifiers(&n.specifiers, 0),
+            NodeList::ImportSpecifiers(&n.specifiers),
         ),
-        ModuleDecl::ExportDecl(n) => {
-            Opened::one(Kind::ExportDecl, Node::Decl(&n.decl), NodeList::Empty)
-        }
+        ModuleDecl::ExportDecl(n) => Opened::new(
+            Kind::ExportDecl,
+            Children::One(Node::Decl(&n.decl)),
+        ),
         ModuleDecl::ExportNamed(n) => Opened::listed(
             Kind::ExportNamed,
-            NodeList::ExportSpecifiers(&n.specifiers, 0),
+            NodeList::ExportSpecifiers(&n.specifiers),
         ),
-        ModuleDecl::ExportDefaultDecl(n) => Opened::two(
+        ModuleDecl::ExportDefaultDecl(n) => Opened::new(
             Kind::ExportDefaultFn(&n.decl.ident),
-            Node::Params(&n.decl.function.params),
-            Node::Body(&n.decl.function.body),
-            NodeList::Empty,
+            Children::Function(&n.decl.function.params, &n.decl.function.body),
         ),
-        ModuleDecl::ExportDefaultExpr(n) => {
-            Opened::one(
-                Kind::ExportDefaultExpr,
-                Node::Expr(&n.expr),
-                NodeList::Empty,
-            )
-        }
+        ModuleDecl::ExportDefaultExpr(n) => Opened::new(
+            Kind::ExportDefaultExpr,
+            Children::One(Node::Expr(&n.expr)),
+        ),
     }
 }
 
