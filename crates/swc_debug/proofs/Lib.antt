@@ -1,2 +1,3 @@
 pub mod Last
+pub mod Lengths
 pub mod Whole

@@ -102,12 +102,13 @@ fn is_reserved(text: &str) -> bool
     is_among(text, &RESERVED)
 }
 
+#[tactic(auto, using(crate::proofs::Lengths::unlike))]
 fn is_among(text: &str, words: &[&str]) -> bool
     ensures { result ≡ is_among_texts text.now (map (λ w. w.now) words.now) }
 {
     let mut left = words;
     while let [word, rest @ ..] = left {
-        if text == *word {
+        if word.len() == text.len() && text == *word {
             return true;
         }
         left = rest;
