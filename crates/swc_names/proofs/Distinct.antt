@@ -36,6 +36,14 @@ pub first_left : (left : List (Bor Ident)) (n : Bor Ident) → 1 ≤ length left
 first_left [] n some is = absurd (omega (arith, some))
 first_left (m ∷ ms) n some is = ap₂ (λ k ks. k ∷ ks) (sym is) (sym (take_all (length (m ∷ ms) - 1) ms (omega arith)))
 
+-- a name that is among others
+pub there : (x y : Name) (ks : List Id) (b : Bool) → y ≡ x → b ≡ list_any (λ k. same_name y (id_name k)) ks → b ≡ true → ids ks ≡ with_name (ids ks) x
+there x y ks b same is holds = ap (λ b. if b then ids ks else ids ks ++ x ∷ []) (sym holds ∙ is ∙ has_id y ks ∙ ap (λ z. has_name z (ids ks)) same)
+
+-- a name that was put in
+pub put : (n : Ident) (i : Id) (ks ns : List Id) → id_name i ≡ ident_name n → ns ≡ insert_key same_id ks i → ids ns ≡ with_name (ids ks) (ident_name n)
+put n i ks ns same made = ap ids made ∙ inserted ks i ∙ ap (with_name (ids ks)) same
+
 -- a step of the loop
-pub counted : (left rest : List (Bor Ident)) (n : Bor Ident) (i : Id) (ks ns : List Id) (g : List Name) → left ≡ n ∷ rest → id_name i ≡ ident_name n.now → ns ≡ insert_key same_id ks i → fold with_name (ids ks) (idents left) ≡ g → fold with_name (ids ns) (idents rest) ≡ g
-counted left rest n i ks ns g is same made h = ap (λ ms. fold with_name ms (idents rest)) (ap ids made ∙ inserted ks i ∙ ap (with_name (ids ks)) same) ∙ sym (ap (λ l. fold with_name (ids ks) (idents l)) is) ∙ h
+pub counted : (left rest : List (Bor Ident)) (n : Bor Ident) (ms ns : List Name) (g : List Name) → left ≡ n ∷ rest → ns ≡ with_name ms (ident_name n.now) → fold with_name ms (idents left) ≡ g → fold with_name ns (idents rest) ≡ g
+counted left rest n ms ns g is made h = ap (λ xs. fold with_name xs (idents rest)) made ∙ sym (ap (λ l. fold with_name ms (idents l)) is) ∙ h

@@ -1,11 +1,11 @@
 //! Names by number.
-ghost use Rattle.std.specs.Prelude.{◌≡◌, IfOk, IfErr, IfSome, Some, length, position, slice_get, option_map};
+ghost use Rattle.std.specs.Prelude.{◌≡◌, IfOk, IfErr, OnOk, IfSome, Some, length, position, slice_get, option_map};
 ghost use Rattle.swc_ast.specs.Modules.{item_tree};
 ghost use Rattle.swc_ast.specs.Parts.{ident_name, list_trees};
 ghost use Rattle.swc_ast.specs.Tree.{same_name};
 ghost use Rattle.swc_ast.specs.declared.errors.PassError.TheVariants.{OutOfMemory};
 ghost use Rattle.swc_names.specs.Ids.{id_name, ids, idents};
-ghost use Rattle.swc_names.specs.Names.{mentioned, distinct};
+ghost use Rattle.swc_names.specs.Names.{mentioned, with_name, distinct};
 
 use crate::gather::{Choice, gather};
 use crate::keys::Key;
@@ -81,8 +81,18 @@ fn set_of(alloc: Global, names: &[&Ident]) -> Result<IndexSet<Id>, AllocError>
     let mut set = IndexSet::new(alloc);
     let mut left = names;
     while let [name, rest @ ..] = left {
-        set.insert(name.to_id()?)?;
+        add(&mut set, name)?;
         left = rest;
     }
     Ok(set)
+}
+
+/// Adds a name, if it isn't there yet.
+fn add(set: &mut IndexSet<Id>, name: &Ident) -> Result<(), AllocError>
+    ensures { OnOk result (ids set.new.keys ≡ with_name (ids set.old.keys) (ident_name name.now)) }
+{
+    if !set.contains(Key::of(name)) {
+        set.insert(name.to_id()?)?;
+    }
+    Ok(())
 }

@@ -1,7 +1,8 @@
-use Rattle.swc_names.proofs.Distinct.{named, first_left, counted}
+use Rattle.swc_names.specs.Ids.{ids}
+use Rattle.swc_names.proofs.Distinct.{first_left, counted}
 use Rattle.swc_names.proofs.numbers.set_of.Goals as goal
 
 pub loop-left-preserved : goal.loop-left-preserved
 loop-left-preserved c =
-    let n = c.name-item.result in let i = c.in_ok-to_id.field-0 in
-    counted c.loop-left.left.now _ n i c.loop-left.set.keys c.insert.new.self.keys _ (first_left c.loop-left.left.now n c.in-len1-up.len_at_least c.name-item.is) (named i n.now c.in_ok-to_id.ensures.text c.in_ok-to_id.ensures.context) c.in_ok-insert.ensures.keys c.loop-left.invariant
+    let n = c.name-item.result in
+    counted c.loop-left.left.now _ n (ids c.loop-left.set.keys) (ids c.add.new.set.keys) _ (first_left c.loop-left.left.now n c.in-len1-up.len_at_least c.name-item.is) c.in_ok-add.ensures c.loop-left.invariant

@@ -1,4 +1,4 @@
-use Rattle.std.proofs.Common.{◌≡◌, ◌∙◌, ap, position, Option, ℕ}
+use Rattle.std.proofs.Common.{◌∙◌, ap, position}
 use Rattle.swc_ast.specs.Parts.{ident_name}
 use Rattle.swc_ast.specs.Tree.{same_name}
 use Rattle.swc_names.specs.Ids.{key_name}
