@@ -25,14 +25,14 @@ alone g xs f x = is_fact g f && has_name x xs
 
 -- what is said by naming
 
-naming_pieces : (f : Fact) (x : Name) (p : Place) (l : Label) (a b w n : List Name) → has_name x a ≡ by_naming fact.Used x p l → has_name x b ≡ by_naming fact.Read x p l → has_name x w ≡ by_naming fact.Written x p l → has_name x n ≡ by_naming fact.Abroad x p l → (((alone fact.Used a f x || alone fact.Read b f x) || alone fact.Written w f x) || alone fact.Abroad n f x) ≡ by_naming f x p l
-naming_pieces fact.Used x p l a b w n used read wrote far = or_false _ ∙ or_false _ ∙ or_false _ ∙ used
-naming_pieces fact.Read x p l a b w n used read wrote far = or_false _ ∙ or_false _ ∙ read
-naming_pieces fact.Written x p l a b w n used read wrote far = or_false _ ∙ wrote
-naming_pieces fact.Abroad x p l a b w n used read wrote far = far
-naming_pieces fact.Declared x p l a b w n used read wrote far = refl
-naming_pieces fact.Held x p l a b w n used read wrote far = refl
-naming_pieces fact.Hidden x p l a b w n used read wrote far = refl
+naming_pieces : (f : Fact) (x : Name) (p : Place) (l : Label) (a w n : List Name) → has_name x a ≡ by_naming fact.Used x p l → has_name x w ≡ by_naming fact.Written x p l → has_name x n ≡ by_naming fact.Abroad x p l → ((alone fact.Used a f x || alone fact.Written w f x) || alone fact.Abroad n f x) ≡ by_naming f x p l
+naming_pieces fact.Used x p l a w n used wrote far = or_false _ ∙ or_false _ ∙ used
+naming_pieces fact.Read x p l a w n used wrote far = or_false _ ∙ or_false _ ∙ used
+naming_pieces fact.Written x p l a w n used wrote far = or_false _ ∙ wrote
+naming_pieces fact.Abroad x p l a w n used wrote far = far
+naming_pieces fact.Declared x p l a w n used wrote far = refl
+naming_pieces fact.Held x p l a w n used wrote far = refl
+naming_pieces fact.Hidden x p l a w n used wrote far = refl
 
 -- what is said by declaring
 
@@ -45,13 +45,12 @@ declaring_pieces fact.Read x p l d h s declared held seen = refl
 declaring_pieces fact.Written x p l d h s declared held seen = refl
 declaring_pieces fact.Abroad x p l d h s declared held seen = refl
 
-pub named_so : (u t v w z : Table) (p : Place) (l : Label) (a b c d : List Name) → ((x : Name) → has_name x a ≡ by_naming fact.Used x p l) → ((x : Name) → has_name x b ≡ by_naming fact.Read x p l) → ((x : Name) → has_name x c ≡ by_naming fact.Written x p l) → ((x : Name) → has_name x d ≡ by_naming fact.Abroad x p l) → Notes u t (alone fact.Used a) → Notes t v (alone fact.Read b) → Notes v w (alone fact.Written c) → Notes w z (alone fact.Abroad d) → Notes u z (λ f x. by_naming f x p l)
-named_so u t v w z p l a b c d used read wrote far h i j k =
-    let two = next u t v (alone fact.Used a) (alone fact.Read b) h i in
-    let three = next u v w (λ f x. alone fact.Used a f x || alone fact.Read b f x) (alone fact.Written c) two j in
-    let four = next u w z (λ f x. (alone fact.Used a f x || alone fact.Read b f x) || alone fact.Written c f x) (alone fact.Abroad d) three k in
-    said u z (λ f x. ((alone fact.Used a f x || alone fact.Read b f x) || alone fact.Written c f x) || alone fact.Abroad d f x) (λ f x. by_naming f x p l)
-    (λ f x. naming_pieces f x p l a b c d (used x) (read x) (wrote x) (far x)) four
+pub named_so : (u t v w : Table) (p : Place) (l : Label) (a b c : List Name) → ((x : Name) → has_name x a ≡ by_naming fact.Used x p l) → ((x : Name) → has_name x b ≡ by_naming fact.Written x p l) → ((x : Name) → has_name x c ≡ by_naming fact.Abroad x p l) → Notes u t (alone fact.Used a) → Notes t v (alone fact.Written b) → Notes v w (alone fact.Abroad c) → Notes u w (λ f x. by_naming f x p l)
+named_so u t v w p l a b c used wrote far h i j =
+    let two = next u t v (alone fact.Used a) (alone fact.Written b) h i in
+    let three = next u v w (λ f x. alone fact.Used a f x || alone fact.Written b f x) (alone fact.Abroad c) two j in
+    said u w (λ f x. (alone fact.Used a f x || alone fact.Written b f x) || alone fact.Abroad c f x) (λ f x. by_naming f x p l)
+    (λ f x. naming_pieces f x p l a b c (used x) (wrote x) (far x)) three
 
 pub declared_so : (u t v w : Table) (p : Place) (l : Label) (a b c : List Name) → ((x : Name) → has_name x a ≡ by_declaring fact.Declared x p l) → ((x : Name) → has_name x b ≡ by_declaring fact.Held x p l) → ((x : Name) → has_name x c ≡ by_declaring fact.Hidden x p l) → Notes u t (alone fact.Declared a) → Notes t v (alone fact.Held b) → Notes v w (alone fact.Hidden c) → Notes u w (λ f x. by_declaring f x p l)
 declared_so u t v w p l a b c declared held seen h i j =

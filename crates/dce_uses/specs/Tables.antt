@@ -10,9 +10,10 @@ use Rattle.dce_uses.specs.declared.table.Table.{Table}
 use Rattle.dce_uses.specs.declared.uses.Uses.{Uses}
 use Rattle.dce_uses.specs.Noted.{noted, at_top, is_counted}
 
--- a fact by itself
+-- whether noting a fact tells another: itself, and a use is a read
 abbrev pub is_fact : Fact → Fact → Bool
 is_fact fact.Used fact.Used = true
+is_fact fact.Used fact.Read = true
 is_fact fact.Read fact.Read = true
 is_fact fact.Written fact.Written = true
 is_fact fact.Abroad fact.Abroad = true

@@ -90,7 +90,6 @@ impl Table {
         ensures { Notes self.old self.new (λ f x. noted.by_naming f x place (kind_label kind.entry)) }
     {
         self.add(read_name(kind), Fact::Used);
-        self.add(read_name(kind), Fact::Read);
         self.add(written_name(kind), Fact::Written);
         self.add(named_abroad(kind, place), Fact::Abroad);
     }

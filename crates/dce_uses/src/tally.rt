@@ -66,13 +66,16 @@ impl Tally {
         }
     }
 
-    /// The same with one fact more.
+    /// The same with one fact more; a use is a read too.
     pub(crate) fn with(self, fact: Fact) -> Tally
         ensures { (f : facts.Fact) → holds result f ≡ (holds self f || is_fact fact f) }
     {
         let mut tally = self;
         match fact {
-            Fact::Used => tally.uses = tally.uses.saturating_add(1),
+            Fact::Used => {
+                tally.uses = tally.uses.saturating_add(1);
+                tally.is_read = true;
+            }
             Fact::Written => tally.writes = tally.writes.saturating_add(1),
             Fact::Read => tally.is_read = true,
             Fact::Abroad => tally.is_abroad = true,

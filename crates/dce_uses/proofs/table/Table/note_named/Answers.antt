@@ -7,7 +7,7 @@ use Rattle.dce_uses.proofs.table.Table.note_named.Goals as goal
 
 pub returns : goal.returns
 returns c =
-    named_so c.args.self.now c.add.new.self c.add-2.new.self c.add-3.new.self c.add-4.new.self c.args.place (kind_label c.args.kind)
-    (optional c.read_name.result) (optional c.read_name-2.result) (optional c.written_name.result) (optional c.named_abroad.result)
-    (λ x. ap (has_name x) c.read_name.ensures) (λ x. ap (has_name x) c.read_name-2.ensures) (λ x. ap (has_name x) c.written_name.ensures) (λ x. ap (has_name x) c.named_abroad.ensures)
-    c.add.ensures c.add-2.ensures c.add-3.ensures c.add-4.ensures
+    named_so c.args.self.now c.add.new.self c.add-2.new.self c.add-3.new.self c.args.place (kind_label c.args.kind)
+    (optional c.read_name.result) (optional c.written_name.result) (optional c.named_abroad.result)
+    (λ x. ap (has_name x) c.read_name.ensures) (λ x. ap (has_name x) c.written_name.ensures) (λ x. ap (has_name x) c.named_abroad.ensures)
+    c.add.ensures c.add-2.ensures c.add-3.ensures
