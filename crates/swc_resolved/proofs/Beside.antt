@@ -1,7 +1,7 @@
 -- Functions with a default, by what a node is and its children.
-use Rattle.std.proofs.Common.{◌≡◌, Bool, true, false, refl, sym, ap, ◌∙◌}
+use Rattle.std.proofs.Common.{◌≡◌, true, false, refl, sym, ap, ◌∙◌}
 use Rattle.std.specs.Prelude.{◌&&◌, if◌then◌else◌}
-use Rattle.swc_ast.specs.Tree.{Label, Tree, node, Forest, ε, ◌⊳◌}
+use Rattle.swc_ast.specs.Tree.{Label, Tree, node, Forest}
 use Rattle.swc_ast.specs.Scope.{is_function}
 use Rattle.swc_ast.specs.Resolved.{apart, apart_all, params_apart}
 use Rattle.swc_visit.specs.Nodes.{label_of, children_of}

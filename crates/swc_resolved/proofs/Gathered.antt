@@ -1,5 +1,5 @@
 -- The names that a node gives, by what it is and its children.
-use Rattle.std.proofs.Common.{◌≡◌, ℕ, ◌+◌, ◌*◌, ◌<◌, Bool, true, false, List, [], ◌∷◌, ◌++◌, refl, sym, ap, ap₂, ◌∙◌, arith}
+use Rattle.std.proofs.Common.{◌≡◌, ◌+◌, ◌*◌, ◌<◌, Bool, true, false, List, [], ◌∷◌, ◌++◌, refl, sym, ap, ap₂, ◌∙◌, arith}
 use Rattle.std.proofs.lemmas.Bool.{false≢true}
 use Rattle.std.proofs.lemmas.List.{append_assoc, append-nil}
 use Rattle.std.specs.Prelude.{if◌then◌else◌}
@@ -7,11 +7,11 @@ use Rattle.swc_ast.specs.declared.Span.{Span}
 use Rattle.swc_ast.specs.declared.VarDeclKind.TheVariants.{Var, Let, Const}
 use Rattle.swc_ast.specs.Tree as tree
 use Rattle.swc_ast.specs.Tree.{Name, Label, Tree, node, Forest, ε, ◌⊳◌}
-use Rattle.swc_ast.specs.Scope.{Declared, vars, vars_all, own_vars, holds_statements, declared, declared_by, declared_by_label, as_lexicals, declarator_name, declarator_names, param_name, imported_name, specifier_names, import_names_of, import_names, body_statements, case_statements, joined}
+use Rattle.swc_ast.specs.Scope.{vars, vars_all, own_vars, holds_statements, declared, declared_by, declared_by_label, as_lexicals, declarator_name, declarator_names, param_name, imported_name, specifier_names, import_names_of, body_statements, case_statements, joined}
 use Rattle.swc_ast.specs.Meaning.{head_names, first_tree}
-use Rattle.swc_ast.specs.Resolved.{first_names, declared_names}
+use Rattle.swc_ast.specs.Resolved.{first_names}
 use Rattle.swc_static.proofs.Names.{first_names_append}
-use Rattle.swc_visit.specs.Nodes.{Opens, label_of, children_of}
+use Rattle.swc_visit.specs.Nodes.{label_of, children_of}
 use Rattle.swc_visit.proofs.Caps.{tree_size, forest_size}
 use Rattle.swc_resolved.specs.declared.declared.Part.{Part}
 use Rattle.swc_resolved.specs.declared.declared.Part.TheVariants as part

@@ -1,6 +1,6 @@
 -- Names that stand once in a list, as they are put in a set one by one, and lists with no name in common.
-use Rattle.std.proofs.Common.{◌≡◌, ℕ, zero, suc, Bool, true, false, not, ◌||◌, ◌&&◌, if◌then◌else◌, nat_le, refl, ap, ◌∙◌, sym, List, [], ◌∷◌, map, length, take, drop, get_or, ◌-◌, ◌≤◌, ◌<◌, arith}
-use Rattle.std.proofs.lemmas.Bool.{false≢true, and_parts}
+use Rattle.std.proofs.Common.{◌≡◌, ℕ, zero, suc, Bool, true, false, not, ◌||◌, ◌&&◌, if◌then◌else◌, nat_le, refl, ap, ◌∙◌, sym, List, [], ◌∷◌, length, take, drop, get_or, ◌-◌, ◌≤◌, ◌<◌, arith}
+use Rattle.std.proofs.lemmas.Bool.{false≢true}
 use Rattle.std.proofs.lemmas.List.{take_all}
 use Rattle.std.proofs.Math.Dec.{leb-suc-suc, leb-suc-zero}
 use Rattle.swc_ast.specs.Tree.{Name, same_name}

@@ -1,5 +1,5 @@
 -- How far into a tree a walk is that goes from nodes to their children and on.
-use Rattle.std.proofs.Common.{◌≡◌, ℕ, ◌+◌, ◌*◌, ◌<◌, ◌≤◌, ap, arith}
+use Rattle.std.proofs.Common.{◌≡◌, ◌+◌, ◌*◌, ◌<◌, ◌≤◌, ap, arith}
 use Rattle.swc_ast.specs.Tree.{Tree, Forest, ◌⊳◌}
 use Rattle.swc_visit.specs.Nodes.{children_of}
 use Rattle.swc_visit.proofs.Caps.{tree_size, forest_size, opened_smaller}

@@ -1,5 +1,4 @@
 use Rattle.std.proofs.Common.{sym, ◌∙◌}
-use Rattle.std.proofs.lemmas.Result.{IfOk-equal}
 use Rattle.swc_visit.specs.Kinds.{kind_label}
 use Rattle.swc_visit.specs.Nodes.{children_forest}
 use Rattle.swc_resolved.proofs.Beside.{plain_apart}

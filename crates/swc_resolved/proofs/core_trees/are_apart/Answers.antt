@@ -1,4 +1,4 @@
-use Rattle.std.proofs.Common.{sym, ap, subst, ◌∙◌}
+use Rattle.std.proofs.Common.{subst, ◌∙◌}
 use Rattle.std.specs.Prelude.{IfSome}
 use Rattle.swc_resolved.specs.Names.{names, members}
 use Rattle.swc_resolved.specs.Once.{EachOnce, AreMembers}

@@ -1,4 +1,4 @@
-use Rattle.std.proofs.Common.{sym, ap, ◌∙◌}
+use Rattle.std.proofs.Common.{ap, ◌∙◌}
 use Rattle.swc_resolved.specs.Names.{names}
 use Rattle.swc_ast.specs.Statements.{handler_param}
 use Rattle.swc_visit.specs.Nodes.{children_forest}

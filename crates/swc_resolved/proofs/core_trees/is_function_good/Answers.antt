@@ -1,4 +1,4 @@
-use Rattle.std.proofs.Common.{sym, ap, ◌∙◌}
+use Rattle.std.proofs.Common.{ap, ◌∙◌}
 use Rattle.swc_resolved.specs.Names.{names}
 use Rattle.std.proofs.Common.{ap₂}
 use Rattle.swc_ast.specs.Core.{good_body}

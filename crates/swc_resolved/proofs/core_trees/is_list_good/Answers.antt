@@ -1,4 +1,4 @@
-use Rattle.std.proofs.Common.{sym, ap, ◌∙◌}
+use Rattle.std.proofs.Common.{ap, ◌∙◌}
 use Rattle.swc_resolved.specs.Names.{names}
 use Rattle.swc_resolved.proofs.Fits.{apart_as}
 use Rattle.swc_resolved.proofs.core_trees.is_list_good.Goals as goal

@@ -1,4 +1,4 @@
-use Rattle.std.proofs.Common.{sym, ap, ◌∙◌}
+use Rattle.std.proofs.Common.{sym, ◌∙◌}
 use Rattle.swc_resolved.proofs.Fits.{first_false, first_true}
 use Rattle.swc_resolved.proofs.core_trees.is_own_fit.Goals as goal
 

@@ -1,4 +1,4 @@
-use Rattle.std.proofs.Common.{rules, refl, ap, sym, get_or, ◌∙◌, ◌||◌}
+use Rattle.std.proofs.Common.{ap, sym, get_or, ◌∙◌, ◌||◌}
 use Rattle.std.proofs.lemmas.Bool.{not-true}
 use Rattle.swc_resolved.specs.Names.{name, names, members}
 use Rattle.swc_ast.specs.Core.{once_each}
