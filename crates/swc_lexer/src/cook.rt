@@ -117,7 +117,7 @@ pub fn text(alloc: Global, raw: &str, at: u32) -> Result<String, Fault> {
     let mut escape = Escape::Outside;
     let mut high: u32 = 0;
     for c in raw.chars() {
-        let (next, unit) = step(escape, c, at)?;
+        let (next, unit) = step(escape, c).ok_or(Fault::Syntax { at })?;
         escape = next;
         let Some(unit) = unit else {
             continue;
@@ -161,49 +161,22 @@ fn joined(high: u32, low: u32) -> Option<char> {
     char::from_u32(0x10000 + (high - 0xD800) * 0x400 + (low - 0xDC00))
 }
 
-/// One character more: where the reading stands then, and the unit or the character that is complete.
-fn step(escape: Escape, c: char, at: u32) -> Result<(Escape, Option<u32>), Fault> {
-    let wrong = Fault::Syntax { at };
+/// One character more: where the reading stands then, and the unit or the character that is complete. There is no answer where
+/// the escape is of no grammar.
+fn step(escape: Escape, c: char) -> Option<(Escape, Option<u32>)> {
     match escape {
-        Escape::Outside => Ok(plain(c)),
-        Escape::Begun => begun(c).ok_or(wrong),
-        Escape::LineBroken => {
-            if c == '\n' {
-                Ok((Escape::Outside, None))
-            } else {
-                Ok(plain(c))
-            }
-        }
-        Escape::Digits(left, value) => {
-            let digit = c.to_digit(16).ok_or(wrong)?;
-            let value = value.saturating_mul(16).saturating_add(digit);
-            if left <= 1 {
-                Ok((Escape::Outside, Some(value)))
-            } else {
-                Ok((Escape::Digits(left - 1, value), None))
-            }
-        }
-        Escape::Unicode => {
-            if c == '{' {
-                return Ok((Escape::Brace, None));
-            }
-            let digit = c.to_digit(16).ok_or(wrong)?;
-            Ok((Escape::Digits(3, digit), None))
-        }
-        Escape::Brace => braced(0, c).ok_or(wrong),
-        Escape::Braced(value) => {
-            if c == '}' {
-                return Ok((Escape::Outside, Some(value)));
-            }
-            braced(value, c).ok_or(wrong)
-        }
-        Escape::Zero => {
-            if c.is_ascii_digit() {
-                Err(wrong)
-            } else {
-                Ok(plain(c))
-            }
-        }
+        Escape::Outside => Some(plain(c)),
+        Escape::Begun => begun(c),
+        Escape::LineBroken if c == '\n' => Some((Escape::Outside, None)),
+        Escape::LineBroken => Some(plain(c)),
+        Escape::Digits(left, value) => digit(left, value, c),
+        Escape::Unicode if c == '{' => Some((Escape::Brace, None)),
+        Escape::Unicode => digit(4, 0, c),
+        Escape::Brace => braced(0, c),
+        Escape::Braced(value) if c == '}' => Some((Escape::Outside, Some(value))),
+        Escape::Braced(value) => braced(value, c),
+        Escape::Zero if c.is_ascii_digit() => None,
+        Escape::Zero => Some(plain(c)),
     }
 }
 
@@ -212,6 +185,16 @@ fn plain(c: char) -> (Escape, Option<u32>) {
         '\\' => (Escape::Begun, None),
         '\r' => (Escape::LineBroken, Some(10)),
         _ => (Escape::Outside, Some(c as u32)),
+    }
+}
+
+/// One digit more of so many that are left.
+fn digit(left: u32, value: u32, c: char) -> Option<(Escape, Option<u32>)> {
+    let value = value.saturating_mul(16).saturating_add(c.to_digit(16)?);
+    if left <= 1 {
+        Some((Escape::Outside, Some(value)))
+    } else {
+        Some((Escape::Digits(left - 1, value), None))
     }
 }
 

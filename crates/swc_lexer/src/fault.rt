@@ -1,4 +1,8 @@
 //! What is wrong with a text.
+ghost use Rattle.std.specs.Prelude.{◌≡◌, Some};
+ghost use Rattle.swc_lexer.specs.Words.{construct_word};
+ghost use Rattle.swc_lexer.specs.declared.fault.Fault.TheVariants.{OutOfMemory};
+
 use std::alloc::{AllocError, AllocFailed};
 use std::fmt;
 
@@ -45,7 +49,9 @@ pub enum Construct {
 
 impl Construct {
     /// The construct's name, as it is told.
-    pub fn word(self) -> &'static str {
+    pub fn word(self) -> &'static str
+        ensures { result.now ≡ construct_word self }
+    {
         match self {
             Construct::Number => "Number",
             Construct::Name => "Name",
@@ -74,6 +80,8 @@ impl Construct {
 }
 
 impl fmt::Display for Construct {
+    ghost output = { λ what. Some (construct_word what) };
+
     fn fmt<W: fmt::Write>(&self, f: &mut fmt::Formatter<W>) -> fmt::Result {
         f.write_str(self.word())
     }
@@ -90,12 +98,16 @@ pub enum Fault {
 }
 
 impl From<AllocError> for Fault {
+    ghost from_gives = { λ _ e. e ≡ OutOfMemory };
+
     fn from(_error: AllocError) -> Fault {
         Fault::OutOfMemory
     }
 }
 
 impl<T: Drop> From<AllocFailed<T>> for Fault {
+    ghost from_gives = { λ _ e. e ≡ OutOfMemory };
+
     fn from(_error: AllocFailed<T>) -> Fault {
         Fault::OutOfMemory
     }
