@@ -1,5 +1,5 @@
 //! `if`, `switch`, `try` and jumps.
-use crate::cursor::{Nested, Parser, inside, nest, part};
+use crate::cursor::{Nested, Parser, inside, nest_stmt, part};
 use crate::scopes::ScopeKind;
 use crate::targets::Target;
 use swc_ast::{
@@ -24,11 +24,11 @@ impl<'a> Parser<'a> {
         }
         let node = IfStmt {
             span: self.span_from(start),
-            test: Box::new(self.alloc, test.node)?,
+            test: test.node,
             cons: Box::new(self.alloc, cons.node)?,
             alt,
         };
-        nest(Stmt::If(node), levels)
+        nest_stmt(Stmt::If(node), levels)
     }
 
     #[cycle(parser)]
@@ -40,16 +40,16 @@ impl<'a> Parser<'a> {
         self.scopes.open(ScopeKind::Block)?;
         self.targets.push(Target::Switch)?;
         let cases = self.cases(room)?;
-        self.targets.pop();
+        self.targets.pop(Target::Switch);
         self.scopes.close()?;
         self.expect(Kind::RightBrace)?;
         let levels = discriminant.levels.max(cases.levels);
         let node = SwitchStmt {
             span: self.span_from(start),
-            discriminant: Box::new(self.alloc, discriminant.node)?,
+            discriminant: discriminant.node,
             cases: cases.node,
         };
-        nest(Stmt::Switch(node), levels)
+        nest_stmt(Stmt::Switch(node), levels)
     }
 
     /// The cases of a `switch`, of which one at most is `default`.
@@ -79,7 +79,7 @@ impl<'a> Parser<'a> {
             self.expect(Kind::Case)?;
             let found = self.expression(inside(room)?)?;
             levels = found.levels;
-            test = Some(Box::new(self.alloc, found.node)?);
+            test = Some(found.node);
         }
         self.expect(Kind::Colon)?;
         let cons = self.statements(room)?;
@@ -119,7 +119,7 @@ impl<'a> Parser<'a> {
             handler,
             finalizer,
         };
-        nest(Stmt::Try(node), levels)
+        nest_stmt(Stmt::Try(node), levels)
     }
 
     #[cycle(parser)]
@@ -159,11 +159,11 @@ impl<'a> Parser<'a> {
         if !ends {
             let found = self.expression(inside(room)?)?;
             levels = found.levels;
-            arg = Some(Box::new(self.alloc, found.node)?);
+            arg = Some(found.node);
         }
         self.semicolon()?;
         let span = self.span_from(start);
-        nest(Stmt::Return(ReturnStmt { span, arg }), levels)
+        nest_stmt(Stmt::Return(ReturnStmt { span, arg }), levels)
     }
 
     #[cycle(parser)]
@@ -176,8 +176,8 @@ impl<'a> Parser<'a> {
         let found = self.expression(inside(room)?)?;
         self.semicolon()?;
         let span = self.span_from(start);
-        let arg = Box::new(self.alloc, found.node)?;
-        nest(Stmt::Throw(ThrowStmt { span, arg }), found.levels)
+        let arg = found.node;
+        nest_stmt(Stmt::Throw(ThrowStmt { span, arg }), found.levels)
     }
 
     /// `break` and `continue`, where they lead somewhere.
@@ -187,7 +187,7 @@ impl<'a> Parser<'a> {
         self.bump();
         let next = self.token();
         let mut label: Option<IdentName> = None;
-        let mut name: Option<&str> = None;
+        let mut name: Option<&'a str> = None;
         if matches!(next.kind, Kind::Name) && !next.on_new_line {
             name = Some(self.text_of(next));
             label = Some(self.word()?);

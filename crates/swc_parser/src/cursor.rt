@@ -5,7 +5,7 @@ use crate::exports::Exports;
 use crate::scopes::Scopes;
 use crate::targets::Targets;
 use std::alloc::Global;
-use swc_ast::Span;
+use swc_ast::{Expr, Span, Stmt};
 use swc_lexer::{Construct, Fault, Kind, Token};
 
 /// How many expressions and statements may stand inside one another, the innermost among them.
@@ -23,6 +23,8 @@ pub(crate) struct Parser<'a> {
     pub(crate) place: usize,
     /// the place of an `in` that the head of a `for` may not have
     pub(crate) refused_in: usize,
+    /// the place behind the labels that stand before one statement and were read last
+    pub(crate) labels_end: usize,
     /// whether the text has `?.`
     pub(crate) has_chains: bool,
     pub(crate) scopes: Scopes<'a>,
@@ -49,12 +51,18 @@ pub(crate) fn inside(room: u32) -> Result<u32, Fault>
     Ok(room - 1)
 }
 
-/// An expression or a statement round parts that have so many levels.
-pub(crate) fn nest<T: Drop>(node: T, levels: u32) -> Result<Nested<T>, Fault> {
+/// The levels of an expression or a statement round parts that have so many.
+#[inline(always)]
+fn level_round(levels: u32) -> Result<u32, Fault> {
     if levels >= MOST_LEVELS {
         return Err(Fault::TooDeep);
     }
-    Ok(part(node, levels + 1))
+    Ok(levels + 1)
+}
+
+/// A statement round parts that have so many levels.
+pub(crate) fn nest_stmt(node: Stmt, levels: u32) -> Result<Nested<Stmt>, Fault> {
+    Ok(part(node, level_round(levels)?))
 }
 
 /// A part that is itself no expression and no statement.
@@ -78,11 +86,18 @@ impl<'a> Parser<'a> {
             tokens,
             place: 0,
             refused_in: usize::MAX,
+            labels_end: 0,
             has_chains,
             scopes: Scopes::new(alloc),
             targets: Targets::new(alloc),
             exports: Exports::new(alloc),
         }
+    }
+
+    /// An expression round parts that have so many levels.
+    pub(crate) fn nest(&self, node: Expr, levels: u32) -> Result<Nested<Box<Expr>>, Fault> {
+        let levels = level_round(levels)?;
+        Ok(part(Box::new(self.alloc, node)?, levels))
     }
 
     #[inline(always)]

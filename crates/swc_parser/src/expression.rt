@@ -1,5 +1,5 @@
 //! Expressions with operators. What is named `.._behind` goes on behind an operand that was read.
-use crate::cursor::{Nested, Parser, inside, nest};
+use crate::cursor::{Nested, Parser, inside};
 use crate::names::target;
 use crate::operators::{assign_op, binary_op, unary_op, update_op};
 use swc_ast::{
@@ -9,11 +9,11 @@ use swc_ast::{
 use swc_lexer::{Construct, Fault, Kind};
 
 /// Whether an operator may not stand behind this operand without parentheses.
-fn clashes(op: BinaryOp, operand: &Nested<Expr>) -> bool {
+fn clashes(op: BinaryOp, operand: &Nested<Box<Expr>>) -> bool {
     if operand.wrapped {
         return false;
     }
-    match &operand.node {
+    match &*operand.node {
         Expr::Bin(node) => match op {
             BinaryOp::NullishCoalescing => {
                 matches!(node.op, BinaryOp::LogicalOr | BinaryOp::LogicalAnd)
@@ -51,7 +51,7 @@ fn refuse_name(operand: &Expr) -> Result<(), Fault> {
 
 impl<'a> Parser<'a> {
     #[cycle(parser)]
-    pub(crate) fn expression(&mut self, room: u32) -> Result<Nested<Expr>, Fault> {
+    pub(crate) fn expression(&mut self, room: u32) -> Result<Nested<Box<Expr>>, Fault> {
         let start = self.start();
         let first = self.assignment(room)?;
         self.expression_behind(room, start, first)
@@ -63,28 +63,28 @@ impl<'a> Parser<'a> {
         &mut self,
         room: u32,
         start: u32,
-        first: Nested<Expr>,
-    ) -> Result<Nested<Expr>, Fault> {
+        first: Nested<Box<Expr>>,
+    ) -> Result<Nested<Box<Expr>>, Fault> {
         if !self.is_at(Kind::Comma) {
             return Ok(first);
         }
         let mut exprs = Vec::new(self.alloc);
         let mut levels = first.levels;
-        exprs.push(first.node)?;
+        exprs.push(Box::into_inner(first.node))?;
         for _ in self.place..self.tokens.len() {
             if !self.take(Kind::Comma) {
                 break;
             }
             let next = self.assignment(inside(room)?)?;
             levels = levels.max(next.levels);
-            exprs.push(next.node)?;
+            exprs.push(Box::into_inner(next.node))?;
         }
         let span = self.span_from(start);
-        nest(Expr::Seq(SeqExpr { span, exprs }), levels)
+        self.nest(Expr::Seq(SeqExpr { span, exprs }), levels)
     }
 
     #[cycle(parser)]
-    pub(crate) fn assignment(&mut self, room: u32) -> Result<Nested<Expr>, Fault> {
+    pub(crate) fn assignment(&mut self, room: u32) -> Result<Nested<Box<Expr>>, Fault> {
         if self.is_at_arrow() {
             return self.arrow(room);
         }
@@ -99,8 +99,8 @@ impl<'a> Parser<'a> {
         &mut self,
         room: u32,
         start: u32,
-        first: Nested<Expr>,
-    ) -> Result<Nested<Expr>, Fault> {
+        first: Nested<Box<Expr>>,
+    ) -> Result<Nested<Box<Expr>>, Fault> {
         let left = self.binary_behind(room, start, first, 0)?;
         if self.is_at(Kind::Question) {
             return self.choice_behind(room, start, left);
@@ -116,9 +116,9 @@ impl<'a> Parser<'a> {
             span: self.span_from(start),
             op,
             left,
-            right: Box::new(self.alloc, right.node)?,
+            right: right.node,
         };
-        nest(Expr::Assign(node), levels.max(right.levels))
+        self.nest(Expr::Assign(node), levels.max(right.levels))
     }
 
     /// `? a : b`
@@ -127,8 +127,8 @@ impl<'a> Parser<'a> {
         &mut self,
         room: u32,
         start: u32,
-        test: Nested<Expr>,
-    ) -> Result<Nested<Expr>, Fault> {
+        test: Nested<Box<Expr>>,
+    ) -> Result<Nested<Box<Expr>>, Fault> {
         self.expect(Kind::Question)?;
         let cons = self.assignment(inside(room)?)?;
         self.expect(Kind::Colon)?;
@@ -136,11 +136,11 @@ impl<'a> Parser<'a> {
         let levels = test.levels.max(cons.levels).max(alt.levels);
         let node = CondExpr {
             span: self.span_from(start),
-            test: Box::new(self.alloc, test.node)?,
-            cons: Box::new(self.alloc, cons.node)?,
-            alt: Box::new(self.alloc, alt.node)?,
+            test: test.node,
+            cons: cons.node,
+            alt: alt.node,
         };
-        nest(Expr::Cond(node), levels)
+        self.nest(Expr::Cond(node), levels)
     }
 
     /// Operators that bind more tightly than `least`, with their operands.
@@ -149,9 +149,9 @@ impl<'a> Parser<'a> {
         &mut self,
         room: u32,
         start: u32,
-        first: Nested<Expr>,
+        first: Nested<Box<Expr>>,
         least: u8,
-    ) -> Result<Nested<Expr>, Fault> {
+    ) -> Result<Nested<Box<Expr>>, Fault> {
         let mut left = first;
         for _ in self.place..self.tokens.len() {
             let Some((op, strength)) = binary_op(self.kind()) else {
@@ -164,25 +164,40 @@ impl<'a> Parser<'a> {
                 return Err(self.refuse());
             }
             self.bump();
-            let right_start = self.start();
-            let right = self.operand(inside(room)?)?;
-            let least = beyond(op, strength);
-            let right = self.binary_behind(inside(room)?, right_start, right, least)?;
-            let levels = left.levels.max(right.levels);
-            let node = BinExpr {
-                span: self.span_from(start),
-                op,
-                left: Box::new(self.alloc, left.node)?,
-                right: Box::new(self.alloc, right.node)?,
-            };
-            left = nest(Expr::Bin(node), levels)?;
+            let right = self.right_operand(room, beyond(op, strength))?;
+            left = self.binary(start, op, left, right)?;
         }
         Ok(left)
     }
 
+    /// The right operand of an operator, to which operators belong that bind more tightly than `least`.
+    #[cycle(parser)]
+    fn right_operand(&mut self, room: u32, least: u8) -> Result<Nested<Box<Expr>>, Fault> {
+        let start = self.start();
+        let first = self.operand(inside(room)?)?;
+        self.binary_behind(inside(room)?, start, first, least)
+    }
+
+    fn binary(
+        &self,
+        start: u32,
+        op: BinaryOp,
+        left: Nested<Box<Expr>>,
+        right: Nested<Box<Expr>>,
+    ) -> Result<Nested<Box<Expr>>, Fault> {
+        let levels = left.levels.max(right.levels);
+        let node = BinExpr {
+            span: self.span_from(start),
+            op,
+            left: left.node,
+            right: right.node,
+        };
+        self.nest(Expr::Bin(node), levels)
+    }
+
     /// An operand, with the operators in front of it and what stands behind it.
     #[cycle(parser)]
-    fn operand(&mut self, room: u32) -> Result<Nested<Expr>, Fault> {
+    fn operand(&mut self, room: u32) -> Result<Nested<Box<Expr>>, Fault> {
         let start = self.start();
         if let Some(op) = unary_op(self.kind()) {
             return self.unary(room, op);
@@ -201,19 +216,19 @@ impl<'a> Parser<'a> {
     }
 
     #[cycle(parser)]
-    fn unary(&mut self, room: u32, op: UnaryOp) -> Result<Nested<Expr>, Fault> {
+    fn unary(&mut self, room: u32, op: UnaryOp) -> Result<Nested<Box<Expr>>, Fault> {
         let start = self.start();
         self.bump();
         let arg = self.operand(inside(room)?)?;
         if matches!(op, UnaryOp::Delete) {
-            refuse_name(&arg.node)?;
+            refuse_name(&*arg.node)?;
         }
         let node = UnaryExpr {
             span: self.span_from(start),
             op,
-            arg: Box::new(self.alloc, arg.node)?,
+            arg: arg.node,
         };
-        nest(Expr::Unary(node), arg.levels)
+        self.nest(Expr::Unary(node), arg.levels)
     }
 
     /// Members and calls, and `++` or `--` behind them.
@@ -222,8 +237,8 @@ impl<'a> Parser<'a> {
         &mut self,
         room: u32,
         start: u32,
-        first: Nested<Expr>,
-    ) -> Result<Nested<Expr>, Fault> {
+        first: Nested<Box<Expr>>,
+    ) -> Result<Nested<Box<Expr>>, Fault> {
         let found = self.members_behind(room, start, first, true)?;
         if self.token().on_new_line {
             return Ok(found);
@@ -240,9 +255,9 @@ impl<'a> Parser<'a> {
         start: u32,
         op: UpdateOp,
         prefix: bool,
-        arg: Nested<Expr>,
+        arg: Nested<Box<Expr>>,
         arg_start: u32,
-    ) -> Result<Nested<Expr>, Fault> {
+    ) -> Result<Nested<Box<Expr>>, Fault> {
         let levels = arg.levels;
         let node = UpdateExpr {
             span: self.span_from(start),
@@ -250,6 +265,6 @@ impl<'a> Parser<'a> {
             prefix,
             arg: target(arg, arg_start)?,
         };
-        nest(Expr::Update(node), levels)
+        self.nest(Expr::Update(node), levels)
     }
 }

@@ -1,5 +1,5 @@
 //! Functions.
-use crate::cursor::{Nested, Parser, inside, nest, part};
+use crate::cursor::{Nested, Parser, inside, part};
 use crate::names::redeclared;
 use crate::scopes::ScopeKind;
 use swc_ast::{
@@ -27,7 +27,7 @@ impl<'a> Parser<'a> {
     }
 
     #[cycle(parser)]
-    pub(crate) fn function_expr(&mut self, room: u32) -> Result<Nested<Expr>, Fault> {
+    pub(crate) fn function_expr(&mut self, room: u32) -> Result<Nested<Box<Expr>>, Fault> {
         let start = self.start();
         self.function_word()?;
         let mut ident = None;
@@ -45,7 +45,7 @@ impl<'a> Parser<'a> {
             ident,
             function: Box::new(self.alloc, function.node)?,
         };
-        nest(Expr::Fn(node), function.levels)
+        self.nest(Expr::Fn(node), function.levels)
     }
 
     /// A function's declaration, whose name may be exported. Its levels are those of its parts.
@@ -161,17 +161,16 @@ impl<'a> Parser<'a> {
             return Ok(part(Pat::Ident(left), 0));
         }
         let value = self.assignment(inside(room)?)?;
-        let right = Box::new(self.alloc, value.node)?;
         let node = AssignPat {
             span: self.span_from(token.start),
             left,
-            right,
+            right: value.node,
         };
         Ok(part(Pat::Assign(node), value.levels))
     }
 
     #[cycle(parser)]
-    pub(crate) fn arrow(&mut self, room: u32) -> Result<Nested<Expr>, Fault> {
+    pub(crate) fn arrow(&mut self, room: u32) -> Result<Nested<Box<Expr>>, Fault> {
         let start = self.start();
         self.scopes.open(ScopeKind::Function)?;
         let outer = self.targets.enter();
@@ -196,7 +195,7 @@ impl<'a> Parser<'a> {
             params: params.node,
             body: body.node,
         };
-        nest(Expr::Arrow(node), levels)
+        self.nest(Expr::Arrow(node), levels)
     }
 
     #[cycle(parser)]
@@ -210,7 +209,6 @@ impl<'a> Parser<'a> {
             return Ok(part(BlockStmtOrExpr::BlockStmt(block.node), block.levels));
         }
         let found = self.assignment(inside(room)?)?;
-        let expr = Box::new(self.alloc, found.node)?;
-        Ok(part(BlockStmtOrExpr::Expr(expr), found.levels))
+        Ok(part(BlockStmtOrExpr::Expr(found.node), found.levels))
     }
 }

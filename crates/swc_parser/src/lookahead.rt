@@ -30,19 +30,19 @@ impl<'a> Parser<'a> {
     /// The place behind the bracket that closes the one at a place, or behind the token there if it is none. The end of the text
     /// where the bracket is open.
     fn behind(&self, place: usize) -> usize {
-        let token = self.token_at(place);
-        if !is_opening(token.kind) {
-            return place.saturating_add(1);
+        let mut last = place;
+        // The parts of a template close one another.
+        for _ in place..self.tokens.len() {
+            let token = self.token_at(last);
+            if !is_opening(token.kind) {
+                break;
+            }
+            if token.closed_by == 0 {
+                return self.tokens.len();
+            }
+            last = token.closed_by as usize;
         }
-        if token.closed_by == 0 {
-            return self.tokens.len();
-        }
-        let close = token.closed_by as usize;
-        if matches!(self.token_at(close).kind, Kind::TemplateMiddle) {
-            close
-        } else {
-            close.saturating_add(1)
-        }
+        last.saturating_add(1)
     }
 
     /// What the token behind the bracket here and the one that closes it is.
@@ -106,8 +106,9 @@ impl<'a> Parser<'a> {
             match self.token_at(place).kind {
                 Kind::OptionalDot => return true,
                 Kind::Dot => place = place.saturating_add(2),
-                Kind::LeftParen | Kind::LeftBracket | Kind::Template => place = self.behind(place),
-                Kind::TemplateHead | Kind::TemplateMiddle => place = self.behind(place),
+                Kind::LeftParen | Kind::LeftBracket | Kind::Template | Kind::TemplateHead => {
+                    place = self.behind(place);
+                }
                 _ => return false,
             }
         }

@@ -1,5 +1,5 @@
 //! Loops.
-use crate::cursor::{Nested, Parser, inside, nest, part};
+use crate::cursor::{Nested, Parser, inside, nest_stmt, part};
 use crate::scopes::ScopeKind;
 use crate::targets::Target;
 use swc_ast::{Expr, ForStmt, Stmt, VarDeclOrExpr, WhileStmt};
@@ -8,7 +8,7 @@ use swc_lexer::{Construct, Fault, Kind};
 impl<'a> Parser<'a> {
     /// `(a)`
     #[cycle(parser)]
-    pub(crate) fn head(&mut self, room: u32) -> Result<Nested<Expr>, Fault> {
+    pub(crate) fn head(&mut self, room: u32) -> Result<Nested<Box<Expr>>, Fault> {
         self.expect(Kind::LeftParen)?;
         let test = self.expression(inside(room)?)?;
         self.expect(Kind::RightParen)?;
@@ -19,7 +19,7 @@ impl<'a> Parser<'a> {
     fn loop_body(&mut self, room: u32) -> Result<Nested<Box<Stmt>>, Fault> {
         self.targets.push(Target::Loop)?;
         let body = self.statement(inside(room)?)?;
-        self.targets.pop();
+        self.targets.pop(Target::Loop);
         Ok(part(Box::new(self.alloc, body.node)?, body.levels))
     }
 
@@ -32,10 +32,10 @@ impl<'a> Parser<'a> {
         let levels = test.levels.max(body.levels);
         let node = WhileStmt {
             span: self.span_from(start),
-            test: Box::new(self.alloc, test.node)?,
+            test: test.node,
             body: body.node,
         };
-        nest(Stmt::While(node), levels)
+        nest_stmt(Stmt::While(node), levels)
     }
 
     #[cycle(parser)]
@@ -49,10 +49,10 @@ impl<'a> Parser<'a> {
         let levels = test.levels.max(body.levels);
         let node = WhileStmt {
             span: self.span_from(start),
-            test: Box::new(self.alloc, test.node)?,
+            test: test.node,
             body: body.node,
         };
-        nest(Stmt::DoWhile(node), levels)
+        nest_stmt(Stmt::DoWhile(node), levels)
     }
 
     #[cycle(parser)]
@@ -79,7 +79,7 @@ impl<'a> Parser<'a> {
             update: update.node,
             body: body.node,
         };
-        nest(Stmt::For(node), levels)
+        nest_stmt(Stmt::For(node), levels)
     }
 
     /// Refuses the `for` here where it goes over a list or over keys.
@@ -112,8 +112,7 @@ impl<'a> Parser<'a> {
             (VarDeclOrExpr::VarDecl(decl.node), decl.levels)
         } else {
             let found = self.expression(inside(room)?)?;
-            let expr = Box::new(self.alloc, found.node)?;
-            (VarDeclOrExpr::Expr(expr), found.levels)
+            (VarDeclOrExpr::Expr(found.node), found.levels)
         };
         self.refused_in = outer;
         self.expect(Kind::Semicolon)?;
@@ -128,7 +127,6 @@ impl<'a> Parser<'a> {
         }
         let found = self.expression(inside(room)?)?;
         self.expect(end)?;
-        let expr = Box::new(self.alloc, found.node)?;
-        Ok(part(Some(expr), found.levels))
+        Ok(part(Some(found.node), found.levels))
     }
 }

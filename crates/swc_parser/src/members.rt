@@ -1,5 +1,5 @@
 //! Members, calls and `new`.
-use crate::cursor::{Nested, Parser, inside, nest, part};
+use crate::cursor::{Nested, Parser, inside, part};
 use swc_ast::{CallExpr, ComputedPropName, Expr, MemberExpr, MemberProp, NewExpr};
 use swc_lexer::{Construct, Fault, Kind};
 
@@ -10,29 +10,19 @@ impl<'a> Parser<'a> {
         &mut self,
         room: u32,
         start: u32,
-        first: Nested<Expr>,
+        first: Nested<Box<Expr>>,
         with_calls: bool,
-    ) -> Result<Nested<Expr>, Fault> {
+    ) -> Result<Nested<Box<Expr>>, Fault> {
         let mut left = first;
         for _ in self.place..self.tokens.len() {
             match self.kind() {
                 Kind::Dot | Kind::LeftBracket => {
                     let prop = self.member_prop(room)?;
-                    let node = MemberExpr {
-                        span: self.span_from(start),
-                        obj: Box::new(self.alloc, left.node)?,
-                        prop: prop.node,
-                    };
-                    left = nest(Expr::Member(node), left.levels.max(prop.levels))?;
+                    left = self.member(start, left, prop)?;
                 }
                 Kind::LeftParen if with_calls => {
                     let args = self.arguments(room)?;
-                    let node = CallExpr {
-                        span: self.span_from(start),
-                        callee: Box::new(self.alloc, left.node)?,
-                        args: args.node,
-                    };
-                    left = nest(Expr::Call(node), left.levels.max(args.levels))?;
+                    left = self.call(start, left, args)?;
                 }
                 Kind::Template | Kind::TemplateHead => {
                     return Err(self.leave_out(Construct::Template));
@@ -41,6 +31,36 @@ impl<'a> Parser<'a> {
             }
         }
         Ok(left)
+    }
+
+    fn member(
+        &self,
+        start: u32,
+        obj: Nested<Box<Expr>>,
+        prop: Nested<MemberProp>,
+    ) -> Result<Nested<Box<Expr>>, Fault> {
+        let levels = obj.levels.max(prop.levels);
+        let node = MemberExpr {
+            span: self.span_from(start),
+            obj: obj.node,
+            prop: prop.node,
+        };
+        self.nest(Expr::Member(node), levels)
+    }
+
+    fn call(
+        &self,
+        start: u32,
+        callee: Nested<Box<Expr>>,
+        args: Nested<Vec<Expr>>,
+    ) -> Result<Nested<Box<Expr>>, Fault> {
+        let levels = callee.levels.max(args.levels);
+        let node = CallExpr {
+            span: self.span_from(start),
+            callee: callee.node,
+            args: args.node,
+        };
+        self.nest(Expr::Call(node), levels)
     }
 
     /// `.a` or `[a]`
@@ -55,7 +75,7 @@ impl<'a> Parser<'a> {
         self.expect(Kind::RightBracket)?;
         let prop = ComputedPropName {
             span: self.span_from(start),
-            expr: Box::new(self.alloc, key.node)?,
+            expr: key.node,
         };
         Ok(part(MemberProp::Computed(prop), key.levels))
     }
@@ -74,7 +94,7 @@ impl<'a> Parser<'a> {
             }
             let arg = self.assignment(inside(room)?)?;
             levels = levels.max(arg.levels);
-            args.push(arg.node)?;
+            args.push(Box::into_inner(arg.node))?;
             if !self.take(Kind::Comma) {
                 break;
             }
@@ -84,7 +104,7 @@ impl<'a> Parser<'a> {
     }
 
     #[cycle(parser)]
-    pub(crate) fn construction(&mut self, room: u32) -> Result<Nested<Expr>, Fault> {
+    pub(crate) fn construction(&mut self, room: u32) -> Result<Nested<Box<Expr>>, Fault> {
         let start = self.start();
         if matches!(self.next_kind(), Kind::Dot) {
             return Err(self.leave_out(Construct::Meta));
@@ -101,9 +121,9 @@ impl<'a> Parser<'a> {
         let levels = callee.levels.max(args.levels);
         let node = NewExpr {
             span: self.span_from(start),
-            callee: Box::new(self.alloc, callee.node)?,
+            callee: callee.node,
             args: args.node,
         };
-        nest(Expr::New(node), levels)
+        self.nest(Expr::New(node), levels)
     }
 }

@@ -210,7 +210,7 @@ impl<'a> Parser<'a> {
         }
         let found = self.assignment(room)?;
         self.semicolon()?;
-        let expr = Box::new(self.alloc, found.node)?;
+        let expr = found.node;
         let span = self.span_from(start);
         Ok(ModuleDecl::ExportDefaultExpr(ExportDefaultExpr { span, expr }))
     }

@@ -9,8 +9,8 @@ fn is_restricted(name: &str) -> bool {
 }
 
 /// What an operand that begins at an offset may be written to as.
-pub(crate) fn target(operand: Nested<Expr>, at: u32) -> Result<AssignTarget, Fault> {
-    match operand.node.into_target() {
+pub(crate) fn target(operand: Nested<Box<Expr>>, at: u32) -> Result<AssignTarget, Fault> {
+    match Box::into_inner(operand.node).into_target() {
         Ok(AssignTarget::Ident(name)) => {
             if is_restricted(name.sym.as_str()) {
                 return Err(Fault::Syntax {

@@ -1,5 +1,5 @@
 //! Objects.
-use crate::cursor::{Nested, Parser, inside, nest, part};
+use crate::cursor::{Nested, Parser, inside, part};
 use swc_ast::{
     ComputedPropName, Expr, KeyValueProp, MethodProp, ObjectLit, Prop, PropName, PropOrSpread,
     SpreadElement,
@@ -8,7 +8,7 @@ use swc_lexer::{Construct, Fault, Kind};
 
 impl<'a> Parser<'a> {
     #[cycle(parser)]
-    pub(crate) fn object(&mut self, room: u32) -> Result<Nested<Expr>, Fault> {
+    pub(crate) fn object(&mut self, room: u32) -> Result<Nested<Box<Expr>>, Fault> {
         let start = self.start();
         self.expect(Kind::LeftBrace)?;
         let mut props = Vec::new(self.alloc);
@@ -26,7 +26,7 @@ impl<'a> Parser<'a> {
         }
         self.expect(Kind::RightBrace)?;
         let span = self.span_from(start);
-        nest(Expr::Object(ObjectLit { span, props }), levels)
+        self.nest(Expr::Object(ObjectLit { span, props }), levels)
     }
 
     /// A property. Its levels are those of its expressions.
@@ -56,7 +56,7 @@ impl<'a> Parser<'a> {
         let value = self.assignment(inside(room)?)?;
         let node = KeyValueProp {
             key: key.node,
-            value: Box::new(self.alloc, value.node)?,
+            value: value.node,
         };
         let levels = key.levels.max(value.levels);
         Ok(part(PropOrSpread::Prop(Prop::KeyValue(node)), levels))
@@ -69,7 +69,7 @@ impl<'a> Parser<'a> {
         self.expect(Kind::Dots)?;
         let dot3_token = self.span_from(start);
         let value = self.assignment(inside(room)?)?;
-        let expr = Box::new(self.alloc, value.node)?;
+        let expr = value.node;
         let node = PropOrSpread::Spread(SpreadElement { dot3_token, expr });
         Ok(part(node, value.levels))
     }
@@ -111,7 +111,7 @@ impl<'a> Parser<'a> {
                 self.expect(Kind::RightBracket)?;
                 let name = ComputedPropName {
                     span: self.span_from(start),
-                    expr: Box::new(self.alloc, inner.node)?,
+                    expr: inner.node,
                 };
                 return Ok(part(PropName::Computed(name), inner.levels));
             }

@@ -69,7 +69,7 @@ pub fn parse_expr(alloc: Global, text: &str, mark: Mark) -> Result<Expr, Fault>
 {
     let tokens = tokenize(alloc, text)?;
     let mut parser = Parser::new(alloc, text, tokens.as_slice());
-    let mut read = parser.expression(ROOM)?.node;
+    let mut read = Box::into_inner(parser.expression(ROOM)?.node);
     parser.expect(Kind::End)?;
     let contexts = parser.scopes.contexts(mark)?;
     Contexts::new(contexts.as_slice()).expr(&mut read);

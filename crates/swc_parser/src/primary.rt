@@ -1,5 +1,5 @@
 //! Names, literals, templates, arrays and parentheses.
-use crate::cursor::{Nested, Parser, inside, nest, part};
+use crate::cursor::{Nested, Parser, inside, part};
 use swc_ast::{
     ArrayLit, Bool, Expr, ExprOrSpread, Lit, Null, Number, Str, ThisExpr, Tpl, TplElement,
 };
@@ -7,14 +7,15 @@ use swc_lexer::{Construct, Fault, Kind, Token};
 
 impl<'a> Parser<'a> {
     #[cycle(parser)]
-    pub(crate) fn primary(&mut self, room: u32) -> Result<Nested<Expr>, Fault> {
+    pub(crate) fn primary(&mut self, room: u32) -> Result<Nested<Box<Expr>>, Fault> {
         let token = self.token();
         match token.kind {
             Kind::Name => {
                 if self.is_at_async() {
                     return Err(self.leave_out(Construct::Async));
                 }
-                Ok(part(Expr::Ident(self.ident()?), 1))
+                let name = self.ident()?;
+                self.nest(Expr::Ident(name), 0)
             }
             Kind::LeftParen => self.parenthesized(room),
             Kind::LeftBracket => self.array(room),
@@ -47,7 +48,7 @@ impl<'a> Parser<'a> {
         }
     }
 
-    fn literal(&mut self, token: Token) -> Result<Nested<Expr>, Fault> {
+    fn literal(&mut self, token: Token) -> Result<Nested<Box<Expr>>, Fault> {
         let node = match token.kind {
             Kind::Number => Expr::Lit(Lit::Num(self.number()?)),
             Kind::Text => Expr::Lit(Lit::Str(self.text_literal()?)),
@@ -64,7 +65,7 @@ impl<'a> Parser<'a> {
                 }
             }
         };
-        Ok(part(node, 1))
+        self.nest(node, 0)
     }
 
     /// A number, which is passed.
@@ -103,7 +104,7 @@ impl<'a> Parser<'a> {
     }
 
     #[cycle(parser)]
-    fn template(&mut self, room: u32) -> Result<Nested<Expr>, Fault> {
+    fn template(&mut self, room: u32) -> Result<Nested<Box<Expr>>, Fault> {
         let start = self.start();
         let mut quasis = Vec::new(self.alloc);
         let mut exprs = Vec::new(self.alloc);
@@ -117,7 +118,7 @@ impl<'a> Parser<'a> {
             }
             let found = self.expression(inside(room)?)?;
             levels = levels.max(found.levels);
-            exprs.push(found.node)?;
+            exprs.push(Box::into_inner(found.node))?;
             if !matches!(self.kind(), Kind::TemplateMiddle | Kind::TemplateTail) {
                 return Err(self.refuse());
             }
@@ -127,7 +128,7 @@ impl<'a> Parser<'a> {
             quasis,
             exprs,
         };
-        nest(Expr::Tpl(node), levels)
+        self.nest(Expr::Tpl(node), levels)
     }
 
     /// A template's part, which is passed.
@@ -144,7 +145,7 @@ impl<'a> Parser<'a> {
 
     /// Parentheses. A run of them takes no deeper recursion than one.
     #[cycle(parser)]
-    fn parenthesized(&mut self, room: u32) -> Result<Nested<Expr>, Fault> {
+    fn parenthesized(&mut self, room: u32) -> Result<Nested<Box<Expr>>, Fault> {
         let first = self.place;
         self.bump();
         for _ in self.place..self.tokens.len() {
@@ -174,7 +175,7 @@ impl<'a> Parser<'a> {
     }
 
     #[cycle(parser)]
-    fn array(&mut self, room: u32) -> Result<Nested<Expr>, Fault> {
+    fn array(&mut self, room: u32) -> Result<Nested<Box<Expr>>, Fault> {
         let start = self.start();
         self.expect(Kind::LeftBracket)?;
         let mut elems = Vec::new(self.alloc);
@@ -187,22 +188,29 @@ impl<'a> Parser<'a> {
                 elems.push(None)?;
                 continue;
             }
-            let item_start = self.start();
-            let spread = if self.take(Kind::Dots) {
-                Some(self.span_from(item_start))
-            } else {
-                None
-            };
-            let item = self.assignment(inside(room)?)?;
+            let item = self.item(room)?;
             levels = levels.max(item.levels);
-            let expr = Box::new(self.alloc, item.node)?;
-            elems.push(Some(ExprOrSpread { spread, expr }))?;
+            elems.push(Some(item.node))?;
             if !self.take(Kind::Comma) {
                 break;
             }
         }
         self.expect(Kind::RightBracket)?;
         let span = self.span_from(start);
-        nest(Expr::Array(ArrayLit { span, elems }), levels)
+        self.nest(Expr::Array(ArrayLit { span, elems }), levels)
+    }
+
+    /// An item of an array, which may be spread.
+    #[cycle(parser)]
+    fn item(&mut self, room: u32) -> Result<Nested<ExprOrSpread>, Fault> {
+        let start = self.start();
+        let spread = if self.take(Kind::Dots) {
+            Some(self.span_from(start))
+        } else {
+            None
+        };
+        let item = self.assignment(inside(room)?)?;
+        let expr = item.node;
+        Ok(part(ExprOrSpread { spread, expr }, item.levels))
     }
 }

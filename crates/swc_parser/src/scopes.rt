@@ -3,16 +3,6 @@ use std::alloc::{AllocError, AllocFailed, Global};
 use std::collections::HashMap;
 use swc_ast::{Mark, SyntaxContext};
 
-/// How a scope comes by a name.
-#[derive(Clone, Copy)]
-enum Declared {
-    /// a `var` of this scope or of one inside it
-    Var,
-    Param,
-    /// `let`, `const`, a function, an import or a handler's name
-    Lexical,
-}
-
 /// What happens to scopes, in the order of the text.
 #[derive(Clone, Copy)]
 enum Event {
@@ -34,11 +24,24 @@ pub(crate) enum ScopeKind {
     CatchBody,
 }
 
+/// What binds a name.
+#[derive(Clone, Copy)]
+struct Binding {
+    scope: u32,
+    /// whether it is a `var` or a parameter, and not `let`, `const`, a function, an import or a handler's name
+    is_var: bool,
+    /// how many scopes there were at its last `var`
+    opened: u32,
+}
+
 #[derive(Drop)]
 struct Scope {
-    kind: ScopeKind,
-    /// the numbers of the names that it binds
-    names: Vec<u32>,
+    /// the scope that binds what is declared here by `var`
+    function: u32,
+    /// the scope round this one that is one with it
+    beside: Option<u32>,
+    /// the numbers of the names that it binds, with what bound them before
+    names: Vec<(u32, Option<Binding>)>,
 }
 
 /// The greatest number of a mark.
@@ -61,10 +64,11 @@ fn mark_of(mark: Mark, scope: u32) -> Mark {
 pub(crate) struct Scopes<'a> {
     alloc: Global,
     symbols: HashMap<&'a str, u32>,
+    /// what binds each name here
+    bindings: Vec<Option<Binding>>,
     scopes: Vec<Scope>,
     /// the scopes that are open
     open: Vec<u32>,
-    declared: HashMap<(u32, u32), Declared>,
     events: Vec<Event>,
 }
 
@@ -73,9 +77,9 @@ impl<'a> Scopes<'a> {
         Scopes {
             alloc,
             symbols: HashMap::new(alloc),
+            bindings: Vec::new(alloc),
             scopes: Vec::new(alloc),
             open: Vec::new(alloc),
-            declared: HashMap::new(alloc),
             events: Vec::new(alloc),
         }
     }
@@ -87,14 +91,30 @@ impl<'a> Scopes<'a> {
         }
         let symbol = u32::try_from(self.symbols.len()).unwrap_or(0);
         self.symbols.insert(name, symbol)?;
+        self.bindings.push(None)?;
         Ok(symbol)
     }
 
+    /// How many scopes there are.
+    fn count(&self) -> u32 {
+        u32::try_from(self.scopes.len()).unwrap_or(0)
+    }
+
     pub(crate) fn open(&mut self, kind: ScopeKind) -> Result<(), AllocError> {
-        let number = u32::try_from(self.scopes.len()).unwrap_or(0);
+        let number = self.count();
+        let round = self.innermost();
         self.events.push(Event::Open(number))?;
+        let function = match kind {
+            ScopeKind::Function | ScopeKind::Body => number,
+            ScopeKind::Block | ScopeKind::CatchBody => self.function_of(round),
+        };
+        let beside = match kind {
+            ScopeKind::Body | ScopeKind::CatchBody => Some(round),
+            ScopeKind::Function | ScopeKind::Block => None,
+        };
         self.scopes.push(Scope {
-            kind,
+            function,
+            beside,
             names: Vec::new(self.alloc),
         })?;
         self.open.push(number)?;
@@ -102,8 +122,11 @@ impl<'a> Scopes<'a> {
     }
 
     pub(crate) fn close(&mut self) -> Result<(), AllocError> {
-        self.open.pop();
         self.events.push(Event::Close)?;
+        let closed = self.open.pop().unwrap_or(0);
+        if let Some(scope) = self.scopes.get(closed as usize) {
+            restore(scope.names.as_slice(), &mut self.bindings);
+        }
         Ok(())
     }
 
@@ -114,85 +137,118 @@ impl<'a> Scopes<'a> {
         Ok(())
     }
 
-    fn bind(&mut self, scope: u32, symbol: u32, how: Declared) -> Result<(), AllocError> {
-        self.declared.insert((scope, symbol), how)?;
-        if let Some(found) = self.scopes.get_mut(scope as usize) {
-            found.names.push(symbol)?;
-        }
-        Ok(())
+    /// The innermost scope that is open.
+    fn innermost(&self) -> u32 {
+        self.open.last().copied().unwrap_or(0)
     }
 
-    fn kind_of(&self, scope: u32) -> ScopeKind {
+    /// The scope that binds what is declared in a scope by `var`.
+    fn function_of(&self, scope: u32) -> u32 {
         match self.scopes.get(scope as usize) {
-            Some(found) => found.kind,
-            None => ScopeKind::Function,
+            Some(found) => found.function,
+            None => scope,
         }
     }
 
-    /// The scope that is open so many scopes out of the innermost one.
-    fn open_scope(&self, out: usize) -> u32 {
-        let place = self.open.len().saturating_sub(out).saturating_sub(1);
-        self.open.get(place).copied().unwrap_or(0)
+    /// Whether a scope is the one round another that is one with it.
+    fn is_beside(&self, round: u32, scope: u32) -> bool {
+        match self.scopes.get(scope as usize) {
+            Some(found) => found.beside == Some(round),
+            None => false,
+        }
     }
 
-    /// Whether the scope round this one, which is one with it, declares a name.
-    fn is_declared_beside(&self, out: usize, symbol: u32) -> bool {
-        let round = self.open_scope(out.saturating_add(1));
-        match self.kind_of(self.open_scope(out)) {
-            ScopeKind::Body | ScopeKind::CatchBody => self.declared.contains_key(&(round, symbol)),
-            ScopeKind::Function | ScopeKind::Block => false,
+    /// What binds a name here.
+    fn binding(&self, symbol: u32) -> Option<Binding> {
+        match self.bindings.get(symbol as usize) {
+            Some(found) => *found,
+            None => None,
         }
+    }
+
+    fn set_binding(&mut self, symbol: u32, binding: Binding) {
+        if let Some(place) = self.bindings.get_mut(symbol as usize) {
+            *place = Some(binding);
+        }
+    }
+
+    fn bind(&mut self, symbol: u32, binding: Binding) -> Result<(), AllocError> {
+        let before = self.binding(symbol);
+        if let Some(found) = self.scopes.get_mut(binding.scope as usize) {
+            found.names.push((symbol, before))?;
+        }
+        self.set_binding(symbol, binding);
+        Ok(())
     }
 
     /// Declares a name in the innermost scope, and says whether it may.
     pub(crate) fn declare(&mut self, name: &'a str) -> Result<bool, AllocError> {
-        self.declare_here(name, Declared::Lexical)
+        self.declare_here(name, false)
     }
 
     /// Declares a parameter of the innermost scope, and says whether it may.
     pub(crate) fn declare_param(&mut self, name: &'a str) -> Result<bool, AllocError> {
-        self.declare_here(name, Declared::Param)
+        self.declare_here(name, true)
     }
 
-    fn declare_here(&mut self, name: &'a str, how: Declared) -> Result<bool, AllocError> {
+    fn declare_here(&mut self, name: &'a str, is_var: bool) -> Result<bool, AllocError> {
         let symbol = self.symbol(name)?;
-        let scope = self.open_scope(0);
-        if self.declared.contains_key(&(scope, symbol)) || self.is_declared_beside(0, symbol) {
+        let scope = self.innermost();
+        // A `var` that came since the scope was opened stands inside it.
+        if let Some(found) = self.binding(symbol)
+            && (found.scope == scope
+                || found.opened > scope
+                || self.is_beside(found.scope, scope))
+        {
             return Ok(false);
         }
-        self.bind(scope, symbol, how)?;
+        self.bind(
+            symbol,
+            Binding {
+                scope,
+                is_var,
+                opened: 0,
+            },
+        )?;
         Ok(true)
     }
 
     /// Declares a `var`, and says whether it may.
     pub(crate) fn declare_var(&mut self, name: &'a str) -> Result<bool, AllocError> {
         let symbol = self.symbol(name)?;
-        for out in 0..self.open.len() {
-            let scope = self.open_scope(out);
-            match self.declared.get(&(scope, symbol)) {
-                Some(Declared::Lexical) => return Ok(false),
-                Some(_) => return Ok(true),
-                None => {}
+        let scope = self.function_of(self.innermost());
+        let binding = Binding {
+            scope,
+            is_var: true,
+            opened: self.count(),
+        };
+        match self.binding(symbol) {
+            // The function binds it, or a scope inside it that is open.
+            Some(found) if found.scope >= scope => {
+                self.set_binding(
+                    symbol,
+                    Binding {
+                        is_var: found.is_var,
+                        ..binding
+                    },
+                );
+                Ok(found.is_var)
             }
-            if self.is_declared_beside(out, symbol) {
-                return Ok(false);
+            Some(found) if self.is_beside(found.scope, scope) => Ok(false),
+            _ => {
+                self.bind(symbol, binding)?;
+                Ok(true)
             }
-            match self.kind_of(scope) {
-                ScopeKind::Function | ScopeKind::Body => {
-                    self.bind(scope, symbol, Declared::Var)?;
-                    return Ok(true);
-                }
-                ScopeKind::Block | ScopeKind::CatchBody => {}
-            }
-            self.declared.insert((scope, symbol), Declared::Var)?;
         }
-        Ok(true)
     }
 
-    /// Whether the first scope of the text declares a name.
+    /// Whether the first scope of the text, which is open, declares a name.
     pub(crate) fn is_declared_first(&self, name: &str) -> bool {
-        match self.symbols.get(name) {
-            Some(symbol) => self.declared.contains_key(&(0, *symbol)),
+        let Some(symbol) = self.symbols.get(name) else {
+            return false;
+        };
+        match self.binding(*symbol) {
+            Some(found) => found.scope == 0,
             None => false,
         }
     }
@@ -234,13 +290,22 @@ impl<'a> Scopes<'a> {
         let Some(scope) = self.scopes.get(number as usize) else {
             return Ok(());
         };
-        for symbol in &scope.names {
+        for (symbol, _) in &scope.names {
             if let Some(place) = current.get_mut(*symbol as usize) {
                 hidden.push((*symbol, *place))?;
                 *place = own;
             }
         }
         Ok(())
+    }
+}
+
+/// What bound names before binds them again.
+fn restore(names: &[(u32, Option<Binding>)], bindings: &mut Vec<Option<Binding>>) {
+    for (symbol, before) in names {
+        if let Some(place) = bindings.get_mut(*symbol as usize) {
+            *place = *before;
+        }
     }
 }
 

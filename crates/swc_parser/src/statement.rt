@@ -1,5 +1,5 @@
 //! Statements and declarations.
-use crate::cursor::{Nested, Parser, inside, nest, part};
+use crate::cursor::{Nested, Parser, inside, nest_stmt, part};
 use crate::scopes::ScopeKind;
 use crate::targets::Target;
 use swc_ast::{
@@ -30,11 +30,11 @@ impl<'a> Parser<'a> {
         match self.kind() {
             Kind::Function => {
                 let decl = self.function_decl(room, false)?;
-                nest(Stmt::Decl(Decl::Fn(decl.node)), decl.levels)
+                nest_stmt(Stmt::Decl(Decl::Fn(decl.node)), decl.levels)
             }
             Kind::Let | Kind::Const => {
                 let decl = self.declaration(room, false)?;
-                nest(Stmt::Decl(Decl::Var(decl.node)), decl.levels)
+                nest_stmt(Stmt::Decl(Decl::Var(decl.node)), decl.levels)
             }
             _ => self.statement(room),
         }
@@ -116,7 +116,7 @@ impl<'a> Parser<'a> {
         if self.take(Kind::Equal) {
             let value = self.assignment(inside(room)?)?;
             levels = value.levels;
-            init = Some(Box::new(self.alloc, value.node)?);
+            init = Some(value.node);
         } else if matches!(kind, VarDeclKind::Const) {
             return Err(self.refuse());
         }
@@ -129,12 +129,12 @@ impl<'a> Parser<'a> {
         match self.kind() {
             Kind::LeftBrace => {
                 let block = self.block(room, ScopeKind::Block)?;
-                nest(Stmt::Block(block.node), block.levels)
+                nest_stmt(Stmt::Block(block.node), block.levels)
             }
             Kind::Semicolon => Ok(self.empty()),
             Kind::Var => {
                 let decl = self.declaration(room, false)?;
-                nest(Stmt::Decl(Decl::Var(decl.node)), decl.levels)
+                nest_stmt(Stmt::Decl(Decl::Var(decl.node)), decl.levels)
             }
             Kind::If => self.branch(room),
             Kind::While => self.while_loop(room),
@@ -170,9 +170,9 @@ impl<'a> Parser<'a> {
         self.semicolon()?;
         let node = ExprStmt {
             span: self.span_from(start),
-            expr: Box::new(self.alloc, expr.node)?,
+            expr: expr.node,
         };
-        nest(Stmt::Expr(node), expr.levels)
+        nest_stmt(Stmt::Expr(node), expr.levels)
     }
 
     #[cycle(parser)]
@@ -185,19 +185,29 @@ impl<'a> Parser<'a> {
         let of_loop = self.loop_is_labeled();
         let label = self.word()?;
         self.expect(Kind::Colon)?;
-        self.targets.push(Target::Label { name, of_loop })?;
+        let target = Target::Label { name, of_loop };
+        self.targets.push(target)?;
         let body = self.statement(inside(room)?)?;
-        self.targets.pop();
+        self.targets.pop(target);
         let node = LabeledStmt {
             span: self.span_from(token.start),
             label,
             body: Box::new(self.alloc, body.node)?,
         };
-        nest(Stmt::Labeled(node), body.levels)
+        nest_stmt(Stmt::Labeled(node), body.levels)
     }
 
     /// Whether the labels here stand before a loop.
-    fn loop_is_labeled(&self) -> bool {
+    fn loop_is_labeled(&mut self) -> bool {
+        if self.place >= self.labels_end {
+            self.labels_end = self.behind_labels();
+        }
+        let end = self.labels_end;
+        matches!(self.token_at(end).kind, Kind::For | Kind::While | Kind::Do)
+    }
+
+    /// The place behind the labels here.
+    fn behind_labels(&self) -> usize {
         let mut place = self.place;
         for _ in self.place..self.tokens.len() {
             let colon: Token = self.token_at(place.saturating_add(1));
@@ -208,9 +218,6 @@ impl<'a> Parser<'a> {
             }
             place = place.saturating_add(2);
         }
-        matches!(
-            self.token_at(place).kind,
-            Kind::For | Kind::While | Kind::Do
-        )
+        place
     }
 }

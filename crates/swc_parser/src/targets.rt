@@ -1,5 +1,6 @@
 //! What a jump may lead to: loops, switches and labels of the innermost function.
 use std::alloc::{AllocError, Global};
+use std::collections::HashMap;
 
 #[derive(Clone, Copy)]
 pub(crate) enum Target<'a> {
@@ -8,43 +9,69 @@ pub(crate) enum Target<'a> {
     Label { name: &'a str, of_loop: bool },
 }
 
+/// How many loops and switches are open in a function.
+#[derive(Clone, Copy)]
+pub(crate) struct Unnamed {
+    loops: u32,
+    switches: u32,
+}
+
+const NONE: Unnamed = Unnamed {
+    loops: 0,
+    switches: 0,
+};
+
 /// The statements that are open.
 #[derive(Drop)]
 pub(crate) struct Targets<'a> {
-    open: Vec<Target<'a>>,
-    /// where those of the innermost function begin
-    first: usize,
+    /// each label, by how many functions are round it: whether it is a loop's
+    labels: HashMap<(u32, &'a str), bool>,
+    unnamed: Unnamed,
     functions: u32,
 }
 
 impl<'a> Targets<'a> {
     pub(crate) fn new(alloc: Global) -> Targets<'a> {
         Targets {
-            open: Vec::new(alloc),
-            first: 0,
+            labels: HashMap::new(alloc),
+            unnamed: NONE,
             functions: 0,
         }
     }
 
     pub(crate) fn push(&mut self, target: Target<'a>) -> Result<(), AllocError> {
-        self.open.push(target)?;
+        let Unnamed { loops, switches } = self.unnamed;
+        match target {
+            Target::Loop => self.unnamed.loops = loops.saturating_add(1),
+            Target::Switch => self.unnamed.switches = switches.saturating_add(1),
+            Target::Label { name, of_loop } => {
+                self.labels.insert((self.functions, name), of_loop)?;
+            }
+        }
         Ok(())
     }
 
-    pub(crate) fn pop(&mut self) {
-        self.open.pop();
+    pub(crate) fn pop(&mut self, target: Target<'a>) {
+        let Unnamed { loops, switches } = self.unnamed;
+        match target {
+            Target::Loop => self.unnamed.loops = loops.saturating_sub(1),
+            Target::Switch => self.unnamed.switches = switches.saturating_sub(1),
+            Target::Label { name, .. } => {
+                self.labels.remove(&(self.functions, name));
+            }
+        }
     }
 
     /// Begins a function; the answer ends it.
-    pub(crate) fn enter(&mut self) -> usize {
-        let outer = self.first;
-        self.first = self.open.len();
+    pub(crate) fn enter(&mut self) -> Unnamed {
+        let outer = self.unnamed;
+        self.unnamed = NONE;
         self.functions = self.functions.saturating_add(1);
         outer
     }
 
-    pub(crate) fn leave(&mut self, outer: usize) {
-        self.first = outer;
+    pub(crate) fn leave(&mut self, outer: Unnamed) {
+        self.unnamed = outer;
         self.functions = self.functions.saturating_sub(1);
     }
 
@@ -52,32 +79,18 @@ impl<'a> Targets<'a> {
         self.functions > 0
     }
 
-    pub(crate) fn has_label(&self, label: &str) -> bool {
-        for target in self.open.get(self.first..).unwrap_or(&[]) {
-            if let Target::Label { name, .. } = target
-                && *name == label
-            {
-                return true;
-            }
-        }
-        false
+    pub(crate) fn has_label(&self, label: &'a str) -> bool {
+        self.labels.contains_key(&(self.functions, label))
     }
 
     /// Whether `break` leads somewhere, or `continue`.
-    pub(crate) fn is_target(&self, label: Option<&str>, is_break: bool) -> bool {
-        for target in self.open.get(self.first..).unwrap_or(&[]) {
-            let found = match (target, label) {
-                (Target::Loop, None) => true,
-                (Target::Switch, None) => is_break,
-                (Target::Label { name, of_loop }, Some(label)) => {
-                    *name == label && (is_break || *of_loop)
-                }
-                _ => false,
-            };
-            if found {
-                return true;
-            }
+    pub(crate) fn is_target(&self, label: Option<&'a str>, is_break: bool) -> bool {
+        match label {
+            Some(name) => match self.labels.get(&(self.functions, name)) {
+                Some(of_loop) => is_break || *of_loop,
+                None => false,
+            },
+            None => self.unnamed.loops > 0 || (is_break && self.unnamed.switches > 0),
         }
-        false
     }
 }
