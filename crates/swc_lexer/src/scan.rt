@@ -14,6 +14,8 @@ struct Scanner<'a> {
     text: &'a str,
     bytes: &'a [u8],
     place: usize,
+    /// whether a comment was met that has no end, as then none has one
+    comments_are_open: bool,
     ghost within: { place ≤ length bytes.now },
     ghost short: { length bytes.now < 2 ^ 31 },
 }
@@ -34,10 +36,15 @@ impl<'a> Scanner<'a> {
     fn pass_blanks(&mut self) -> bool {
         let mut breaks_line = false;
         for _ in self.place..self.bytes.len() {
-            let Some(found) = blank_at_front(self.rest()) else {
+            let rest = self.rest();
+            if self.comments_are_open && rest.starts_with(b"/*") {
+                break;
+            }
+            let Some(found) = blank_at_front(rest) else {
                 break;
             };
             if found.len == 0 {
+                self.comments_are_open = true;
                 break;
             }
             breaks_line = breaks_line || found.breaks_line;
@@ -265,6 +272,7 @@ pub fn tokenize(alloc: Global, text: &str) -> Result<Vec<Token>, AllocError>
         text,
         bytes,
         place: 0,
+        comments_are_open: false,
     };
     let mut out = Tokens {
         tokens: Vec::new(alloc),
