@@ -2,8 +2,6 @@
 use Rattle.std.proofs.Common.{◌≡◌, Bool, true, false, ◌||◌, ◌&&◌, List, [], ◌∷◌, ◌++◌, Some, refl, sym, ap, ◌∙◌}
 use Rattle.std.specs.Prelude.{if◌then◌else◌, fold}
 use Rattle.std.proofs.lemmas.Bool.{or_parts, or_from}
-use Rattle.swc_ast.specs.declared.AssignOp.{AssignOp}
-use Rattle.swc_ast.specs.declared.AssignOp.TheVariants.{Assign as Plain}
 use Rattle.swc_ast.specs.declared.Span.{Span}
 use Rattle.swc_ast.specs.Tree as tree
 use Rattle.swc_ast.specs.Tree.{Name, Label, same_name, Tree, node, Forest, ε, ◌⊳◌}
@@ -12,13 +10,12 @@ use Rattle.swc_ast.specs.Resolved.{params_of}
 use Rattle.swc_ast.specs.Reach.{named_by}
 use Rattle.swc_static.proofs.Names.{has_name_append, same_name_path}
 use Rattle.swc_names.specs.Names.{own_name, handler_name, mentioned_in, mentioned_behind, mentioned, with_name, distinct}
-use Rattle.dce_rules.specs.Uses.{target_read, read_by, declared_by_node, has_arguments, any_arguments}
+use Rattle.dce_rules.specs.Uses.{declared_by_node, has_arguments, any_arguments}
 use Rattle.dce_uses.specs.declared.place.Place.{Place}
 use Rattle.dce_uses.specs.declared.listed.Part.{Part}
 use Rattle.dce_uses.specs.declared.listed.Part.TheVariants as part
 use Rattle.dce_uses.specs.declared.tally.Fact.{Fact}
-use Rattle.dce_uses.specs.declared.tally.Fact.TheVariants as fact
-use Rattle.dce_uses.specs.Noted.{written_by, function_name, when, by_naming, by_declaring, by_arguments, own, is_counted, below, noted, noted_among}
+use Rattle.dce_uses.specs.Noted.{function_name, naming, declaring, is_hiding, by_naming, by_declaring, by_arguments, own, is_counted, below, noted, noted_among}
 use Rattle.dce_uses.specs.Listed.{listed_name, listed}
 use Rattle.dce_uses.specs.Exports.{declaration_names, first_names, item_names, exported_names}
 use Rattle.dce_uses.proofs.Adding.{and_false, or_false, or_grouped}
@@ -50,25 +47,6 @@ missing x l ss cs h =
     record { here = p.0; handler = q.0; inside = q.1 }
 
 -- labels
-
-target_absent : (x y : Name) (op : AssignOp) → has_name x (y ∷ []) ≡ false → has_name x (target_read op y) ≡ false
-target_absent x y Plain h = refl
-target_absent x y op h = h
-
-read_absent : (x : Name) (l : Label) → has_name x (own_name l) ≡ false → has_name x (read_by l) ≡ false
-read_absent x (tree.Read y) h = h
-read_absent x (tree.CallEval y) h = h
-read_absent x (tree.Shorthand y) h = h
-read_absent x (tree.TypeOfName y) h = h
-read_absent x (tree.Assign op y) h = target_absent x y op h
-read_absent x (tree.Update op prefix y) h = h
-read_absent x (tree.ExportSpecifier y t) h = h
-read_absent x l h = refl
-
-written_absent : (x : Name) (l : Label) → has_name x (own_name l) ≡ false → has_name x (written_by l) ≡ false
-written_absent x (tree.Assign op y) h = h
-written_absent x (tree.Update op prefix y) h = h
-written_absent x l h = refl
 
 named_absent : (x : Name) (l : Label) → has_name x (own_name l) ≡ false → has_name x (named_by l) ≡ false
 named_absent x (tree.Read y) h = h
@@ -118,36 +96,14 @@ params_absent x (node l ss cs ⊳ ts) h = params_absent x ts ((first_of x (node 
 
 -- nodes
 
-when_absent : (b : Bool) (x : Name) (xs : List Name) → has_name x xs ≡ false → has_name x (when b xs) ≡ false
-when_absent true x xs h = h
-when_absent false x xs h = refl
-
 naming_absent : (f : Fact) (x : Name) (p : Place) (l : Label) → has_name x (own_name l) ≡ false → by_naming f x p l ≡ false
-naming_absent fact.Used x p l h = read_absent x l h
-naming_absent fact.Read x p l h = read_absent x l h
-naming_absent fact.Written x p l h = written_absent x l h
-naming_absent fact.Abroad x p l h = when_absent _ x (named_by l) (named_absent x l h)
-naming_absent fact.Declared x p l h = refl
-naming_absent fact.Held x p l h = refl
-naming_absent fact.Hidden x p l h = refl
+naming_absent f x p l h = ap (λ b. naming f p l && b) (named_absent x l h) ∙ and_false (naming f p l)
 
 declaring_absent : (f : Fact) (x : Name) (p : Place) (l : Label) → has_name x (declared_by_node l) ≡ false → by_declaring f x p l ≡ false
-declaring_absent fact.Declared x p l h = h
-declaring_absent fact.Held x p l h = when_absent _ x (declared_by_node l) h
-declaring_absent fact.Hidden x p l h = when_absent _ x (declared_by_node l) h
-declaring_absent fact.Used x p l h = refl
-declaring_absent fact.Read x p l h = refl
-declaring_absent fact.Written x p l h = refl
-declaring_absent fact.Abroad x p l h = refl
+declaring_absent f x p l h = ap (λ b. declaring f p l && b) h ∙ and_false (declaring f p l)
 
 arguments_absent : (f : Fact) (x : Name) (l : Label) (cs : Forest) → has_name x (param_names (params_of cs)) ≡ false → by_arguments f x l cs ≡ false
-arguments_absent fact.Hidden x l cs h = ap (λ b. has_arguments l && (any_arguments cs && b)) h ∙ ap (λ b. has_arguments l && b) (and_false (any_arguments cs)) ∙ and_false (has_arguments l)
-arguments_absent fact.Used x l cs h = refl
-arguments_absent fact.Read x l cs h = refl
-arguments_absent fact.Written x l cs h = refl
-arguments_absent fact.Abroad x l cs h = refl
-arguments_absent fact.Declared x l cs h = refl
-arguments_absent fact.Held x l cs h = refl
+arguments_absent f x l cs h = ap (λ b. is_hiding f && (has_arguments l && (any_arguments cs && b))) h ∙ ap (λ b. is_hiding f && (has_arguments l && b)) (and_false (any_arguments cs)) ∙ ap (λ b. is_hiding f && b) (and_false (has_arguments l)) ∙ and_false (is_hiding f)
 
 own_absent : (f : Fact) (x : Name) (p : Place) (l : Label) (cs : Forest) → Missing x l cs → own f x p l cs ≡ false
 own_absent f x p l cs m =

@@ -6,7 +6,7 @@ use Rattle.swc_ast.specs.Scope.{has_name}
 use Rattle.swc_static.proofs.Names.{has_name_append}
 use Rattle.dce_uses.specs.declared.tally.Fact.{Fact}
 use Rattle.dce_uses.specs.declared.table.Table.{Table}
-use Rattle.dce_uses.specs.Tables.{Notes, fact_at, is_fact}
+use Rattle.dce_uses.specs.Tables.{Notes, fact_at}
 
 -- truth values
 
@@ -72,8 +72,8 @@ ends u v all left none h = λ f x. kept (fact_at v f x) ∙ ap (λ a. option_map
 
 -- names in a row
 
-pub noted_apart : (g f : Fact) (x : Name) (xs ys : List Name) → (is_fact g f && has_name x (xs ++ ys)) ≡ ((is_fact g f && has_name x xs) || (is_fact g f && has_name x ys))
-noted_apart g f x xs ys = ap (λ b. is_fact g f && b) (has_name_append x xs ys) ∙ and_or (is_fact g f) (has_name x xs) (has_name x ys)
+pub noted_apart : (g : Fact → Bool) (f : Fact) (x : Name) (xs ys : List Name) → (g f && has_name x (xs ++ ys)) ≡ ((g f && has_name x xs) || (g f && has_name x ys))
+noted_apart g f x xs ys = ap (λ b. g f && b) (has_name_append x xs ys) ∙ and_or (g f) (has_name x xs) (has_name x ys)
 
-pub none_named : (g f : Fact) (x : Name) (xs : List Name) → xs ≡ [] → (is_fact g f && has_name x xs) ≡ false
-none_named g f x xs is = ap (λ ys. is_fact g f && has_name x ys) is ∙ and_false (is_fact g f)
+pub none_named : (g : Fact → Bool) (f : Fact) (x : Name) (xs : List Name) → xs ≡ [] → (g f && has_name x xs) ≡ false
+none_named g f x xs is = ap (λ ys. g f && has_name x ys) is ∙ and_false (g f)

@@ -1,5 +1,5 @@
 -- What a node says, noted piece by piece.
-use Rattle.std.proofs.Common.{◌≡◌, ◌+◌, ◌*◌, ◌<◌, ◌≤◌, Bool, true, false, ◌||◌, ◌&&◌, List, ◌++◌, Option, Some, None, refl, sym, ap, ◌∙◌, arith}
+use Rattle.std.proofs.Common.{◌≡◌, ◌+◌, ◌*◌, ◌<◌, ◌≤◌, Bool, true, false, ◌||◌, ◌&&◌, List, [], ◌++◌, Option, Some, None, refl, sym, ap, ap₂, ◌∙◌, arith}
 use Rattle.std.specs.Prelude.{if◌then◌else◌, option_map, unwrap_or}
 use Rattle.std.proofs.lemmas.Bool.{and_parts}
 use Rattle.swc_ast.specs.Tree.{Name, Label, Tree, node, Forest, ε, ◌⊳◌}
@@ -10,96 +10,49 @@ use Rattle.swc_visit.proofs.Caps.{tree_size, forest_size, opened_smaller}
 use Rattle.dce_rules.specs.Uses.{has_arguments, any_arguments}
 use Rattle.dce_uses.specs.declared.place.Place.{Place}
 use Rattle.dce_uses.specs.declared.tally.Fact.{Fact}
-use Rattle.dce_uses.specs.declared.tally.Fact.TheVariants as fact
 use Rattle.dce_uses.specs.declared.tally.Tally.{Tally}
 use Rattle.dce_uses.specs.declared.table.Table.{Table}
 use Rattle.dce_uses.specs.declared.listed.Part.TheVariants as part
-use Rattle.dce_uses.specs.Noted.{by_naming, by_declaring, by_arguments, own, is_counted, function_name, below, noted, noted_among, noted_at}
+use Rattle.dce_uses.specs.Noted.{is_hiding, by_naming, by_declaring, by_arguments, own, is_counted, function_name, below, noted, noted_among, noted_at}
 use Rattle.dce_uses.specs.Listed.{listed}
-use Rattle.dce_uses.specs.Tables.{Notes, Restores, IsBefore, fact_at, tally_of, is_fact, holds}
-use Rattle.dce_uses.proofs.Adding.{or_false, or_grouped, next, said, nothing}
+use Rattle.dce_uses.specs.Tables.{Notes, Restores, IsBefore, fact_at, tally_of, holds}
+use Rattle.dce_uses.proofs.Adding.{or_false, or_grouped, and_false, next, said, nothing, none_named}
 
--- a fact of some names by itself
-abbrev pub alone : Fact → List Name → Fact → Name → Bool
-alone g xs f x = is_fact g f && has_name x xs
+-- facts of some names by themselves
+abbrev pub alone : (Fact → Bool) → List Name → Fact → Name → Bool
+alone g xs f x = g f && has_name x xs
 
--- what is said by naming
+-- the name of a node
 
-naming_pieces : (f : Fact) (x : Name) (p : Place) (l : Label) (a w n : List Name) → has_name x a ≡ by_naming fact.Used x p l → has_name x w ≡ by_naming fact.Written x p l → has_name x n ≡ by_naming fact.Abroad x p l → ((alone fact.Used a f x || alone fact.Written w f x) || alone fact.Abroad n f x) ≡ by_naming f x p l
-naming_pieces fact.Used x p l a w n used wrote far = or_false _ ∙ or_false _ ∙ used
-naming_pieces fact.Read x p l a w n used wrote far = or_false _ ∙ or_false _ ∙ used
-naming_pieces fact.Written x p l a w n used wrote far = or_false _ ∙ wrote
-naming_pieces fact.Abroad x p l a w n used wrote far = far
-naming_pieces fact.Declared x p l a w n used wrote far = refl
-naming_pieces fact.Held x p l a w n used wrote far = refl
-naming_pieces fact.Hidden x p l a w n used wrote far = refl
+pub one_said : (u v : Table) (t : Tally) (g : Fact → Bool) (xs ys : List Name) → ((f : Fact) → holds t f ≡ g f) → xs ≡ ys → Notes u v (alone (holds t) xs) → Notes u v (alone g ys)
+one_said u v t g xs ys same named h = said u v (alone (holds t) xs) (alone g ys) (λ f x. ap₂ (λ a zs. a && has_name x zs) (same f) named) h
 
--- what is said by declaring
-
-declaring_pieces : (f : Fact) (x : Name) (p : Place) (l : Label) (d h s : List Name) → has_name x d ≡ by_declaring fact.Declared x p l → has_name x h ≡ by_declaring fact.Held x p l → has_name x s ≡ by_declaring fact.Hidden x p l → ((alone fact.Declared d f x || alone fact.Held h f x) || alone fact.Hidden s f x) ≡ by_declaring f x p l
-declaring_pieces fact.Declared x p l d h s declared held seen = or_false _ ∙ or_false _ ∙ declared
-declaring_pieces fact.Held x p l d h s declared held seen = or_false _ ∙ held
-declaring_pieces fact.Hidden x p l d h s declared held seen = seen
-declaring_pieces fact.Used x p l d h s declared held seen = refl
-declaring_pieces fact.Read x p l d h s declared held seen = refl
-declaring_pieces fact.Written x p l d h s declared held seen = refl
-declaring_pieces fact.Abroad x p l d h s declared held seen = refl
-
-pub named_so : (u t v w : Table) (p : Place) (l : Label) (a b c : List Name) → ((x : Name) → has_name x a ≡ by_naming fact.Used x p l) → ((x : Name) → has_name x b ≡ by_naming fact.Written x p l) → ((x : Name) → has_name x c ≡ by_naming fact.Abroad x p l) → Notes u t (alone fact.Used a) → Notes t v (alone fact.Written b) → Notes v w (alone fact.Abroad c) → Notes u w (λ f x. by_naming f x p l)
-named_so u t v w p l a b c used wrote far h i j =
-    let two = next u t v (alone fact.Used a) (alone fact.Written b) h i in
-    let three = next u v w (λ f x. alone fact.Used a f x || alone fact.Written b f x) (alone fact.Abroad c) two j in
-    said u w (λ f x. (alone fact.Used a f x || alone fact.Written b f x) || alone fact.Abroad c f x) (λ f x. by_naming f x p l)
-    (λ f x. naming_pieces f x p l a b c (used x) (wrote x) (far x)) three
-
-pub declared_so : (u t v w : Table) (p : Place) (l : Label) (a b c : List Name) → ((x : Name) → has_name x a ≡ by_declaring fact.Declared x p l) → ((x : Name) → has_name x b ≡ by_declaring fact.Held x p l) → ((x : Name) → has_name x c ≡ by_declaring fact.Hidden x p l) → Notes u t (alone fact.Declared a) → Notes t v (alone fact.Held b) → Notes v w (alone fact.Hidden c) → Notes u w (λ f x. by_declaring f x p l)
-declared_so u t v w p l a b c declared held seen h i j =
-    let two = next u t v (alone fact.Declared a) (alone fact.Held b) h i in
-    let three = next u v w (λ f x. alone fact.Declared a f x || alone fact.Held b f x) (alone fact.Hidden c) two j in
-    said u w (λ f x. (alone fact.Declared a f x || alone fact.Held b f x) || alone fact.Hidden c f x) (λ f x. by_declaring f x p l)
-    (λ f x. declaring_pieces f x p l a b c (declared x) (held x) (seen x)) three
+pub none_said : (u : Table) (g : Fact → Bool) (xs : List Name) → [] ≡ xs → Notes u u (alone g xs)
+none_said u g xs none = nothing u (alone g xs) (λ f x. none_named g f x xs (sym none))
 
 -- `arguments`
 
 no_own : (f : Fact) (x : Name) (l : Label) (cs : Forest) → has_arguments l ≡ false → by_arguments f x l cs ≡ false
-no_own fact.Hidden x l cs is = ap (λ b. b && (any_arguments cs && has_name x (param_names (params_of cs)))) is
-no_own fact.Used x l cs is = refl
-no_own fact.Read x l cs is = refl
-no_own fact.Written x l cs is = refl
-no_own fact.Abroad x l cs is = refl
-no_own fact.Declared x l cs is = refl
-no_own fact.Held x l cs is = refl
+no_own f x l cs is = ap (λ b. is_hiding f && (b && (any_arguments cs && has_name x (param_names (params_of cs))))) is ∙ and_false (is_hiding f)
 
-none_named : (f : Fact) (x : Name) (l : Label) (cs : Forest) → has_arguments l ≡ true → any_arguments cs ≡ false → by_arguments f x l cs ≡ false
-none_named fact.Hidden x l cs is none = cc (is, none)
-none_named fact.Used x l cs is none = refl
-none_named fact.Read x l cs is none = refl
-none_named fact.Written x l cs is none = refl
-none_named fact.Abroad x l cs is none = refl
-none_named fact.Declared x l cs is none = refl
-none_named fact.Held x l cs is none = refl
+not_called : (f : Fact) (x : Name) (l : Label) (cs : Forest) → has_arguments l ≡ true → any_arguments cs ≡ false → by_arguments f x l cs ≡ false
+not_called f x l cs is none = cc (is, none, and_false (is_hiding f))
 
 pub listed_params : (ps : Forest) → listed part.Params ps ≡ param_names ps
 listed_params ε = refl
 listed_params (node l ss cs ⊳ ts) = ap (λ xs. param_name l ++ xs) (listed_params ts)
 
-params_said : (f : Fact) (x : Name) (l : Label) (cs ps : Forest) → has_arguments l ≡ true → any_arguments cs ≡ true → ps ≡ params_of cs → alone fact.Hidden (listed part.Params ps) f x ≡ by_arguments f x l cs
-params_said fact.Hidden x l cs ps is some of = cc (is, some, of, listed_params ps)
-params_said fact.Used x l cs ps is some of = refl
-params_said fact.Read x l cs ps is some of = refl
-params_said fact.Written x l cs ps is some of = refl
-params_said fact.Abroad x l cs ps is some of = refl
-params_said fact.Declared x l cs ps is some of = refl
-params_said fact.Held x l cs ps is some of = refl
+params_said : (f : Fact) (x : Name) (l : Label) (cs ps : Forest) → has_arguments l ≡ true → any_arguments cs ≡ true → ps ≡ params_of cs → alone is_hiding (listed part.Params ps) f x ≡ by_arguments f x l cs
+params_said f x l cs ps is some of = cc (is, some, of, listed_params ps)
 
 pub without_own : (u : Table) (l : Label) (cs : Forest) → has_arguments l ≡ false → Notes u u (λ f x. by_arguments f x l cs)
 without_own u l cs is = nothing u (λ f x. by_arguments f x l cs) (λ f x. no_own f x l cs is)
 
 pub without_naming : (u : Table) (l : Label) (cs : Forest) → has_arguments l ≡ true → any_arguments cs ≡ false → Notes u u (λ f x. by_arguments f x l cs)
-without_naming u l cs is none = nothing u (λ f x. by_arguments f x l cs) (λ f x. none_named f x l cs is none)
+without_naming u l cs is none = nothing u (λ f x. by_arguments f x l cs) (λ f x. not_called f x l cs is none)
 
-pub with_params : (u v : Table) (l : Label) (cs ps : Forest) → has_arguments l ≡ true → any_arguments cs ≡ true → ps ≡ params_of cs → Notes u v (alone fact.Hidden (listed part.Params ps)) → Notes u v (λ f x. by_arguments f x l cs)
-with_params u v l cs ps is some of h = said u v (alone fact.Hidden (listed part.Params ps)) (λ f x. by_arguments f x l cs) (λ f x. params_said f x l cs ps is some of) h
+pub with_params : (u v : Table) (l : Label) (cs ps : Forest) → has_arguments l ≡ true → any_arguments cs ≡ true → ps ≡ params_of cs → Notes u v (alone is_hiding (listed part.Params ps)) → Notes u v (λ f x. by_arguments f x l cs)
+with_params u v l cs ps is some of h = said u v (alone is_hiding (listed part.Params ps)) (λ f x. by_arguments f x l cs) (λ f x. params_said f x l cs ps is some of) h
 
 -- a node by itself
 

@@ -1,5 +1,4 @@
 mod Adding
-mod Said
 mod Searches
 mod Counting
 mod Lists

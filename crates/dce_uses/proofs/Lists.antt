@@ -15,13 +15,13 @@ use Rattle.dce_uses.proofs.Counting.{alone}
 -- names in a row: the first of them were noted
 
 -- what is left to note
-abbrev pub Left : Table → Table → Fact → List Name → List Name → Type 0
+abbrev pub Left : Table → Table → (Fact → Bool) → List Name → List Name → Type 0
 Left u v g all left = (f : Fact) (x : Name) → option_map (λ b. b || alone g left f x) (fact_at v f x) ≡ option_map (λ b. b || alone g all f x) (fact_at u f x)
 
-pub more_names : (u v w : Table) (g : Fact) (all left here rest : List Name) → left ≡ here ++ rest → Notes v w (alone g here) → Left u v g all left → Left u w g all rest
+pub more_names : (u v w : Table) (g : Fact → Bool) (all left here rest : List Name) → left ≡ here ++ rest → Notes v w (alone g here) → Left u v g all left → Left u w g all rest
 more_names u v w g all left here rest split h k = goes_on u v w (alone g all) (alone g here) (alone g rest) (alone g left) (λ f x. ap (λ xs. alone g xs f x) split ∙ noted_apart g f x here rest) h k
 
-pub no_more_names : (u v : Table) (g : Fact) (all left : List Name) → left ≡ [] → Left u v g all left → Notes u v (alone g all)
+pub no_more_names : (u v : Table) (g : Fact → Bool) (all left : List Name) → left ≡ [] → Left u v g all left → Notes u v (alone g all)
 no_more_names u v g all left none k = ends u v (alone g all) (alone g left) (λ f x. none_named g f x left none) k
 
 -- lists

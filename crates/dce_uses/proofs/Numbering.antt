@@ -13,7 +13,7 @@ use Rattle.dce_uses.specs.declared.tally.Fact.{Fact}
 use Rattle.dce_uses.specs.declared.tally.Tally.{Tally}
 use Rattle.dce_uses.specs.declared.table.Table.{Table}
 use Rattle.dce_uses.specs.Noted.{is_counted}
-use Rattle.dce_uses.specs.Tables.{Notes, Restores, fact_at, tally_of, is_fact, holds}
+use Rattle.dce_uses.specs.Tables.{Notes, Restores, fact_at, tally_of, holds}
 use Rattle.dce_uses.proofs.Adding.{or_false, and_false, kept}
 use Rattle.dce_uses.proofs.Counting.{alone}
 
@@ -95,27 +95,27 @@ absent_either false o g none = refl
 one_name : (x y : Name) (b : Bool) → same_name x y ≡ b → has_name x (y ∷ []) ≡ b
 one_name x y b is = ap (λ c. c || false) is ∙ or_false b
 
--- a fact is noted
-pub noted_one : (u v : Table) (y : Name) (n : ℕ) (t w : Tally) (g : Fact) → Changes u v y n t w → ((f : Fact) → holds w f ≡ (holds t f || is_fact g f)) → Notes u v (alone g (y ∷ []))
-noted_one u v y n t w g h with_fact = λ f x. by f x (same_name x y) refl
+-- facts are noted
+pub noted_one : (u v : Table) (y : Name) (n : ℕ) (t w : Tally) (g : Fact → Bool) → Changes u v y n t w → ((f : Fact) → holds w f ≡ (holds t f || g f)) → Notes u v (alone g (y ∷ []))
+noted_one u v y n t w g h with_more = λ f x. by f x (same_name x y) refl
   where
     by : (f : Fact) (x : Name) (b : Bool) → same_name x y ≡ b → fact_at v f x ≡ option_map (λ c. c || alone g (y ∷ []) f x) (fact_at u f x)
     by f x true is =
-        ap (option_map (λ r. holds r f)) (own_after u v x y n t w h is) ∙ ap (λ c. Some c) (with_fact f ∙ ap (λ c. holds t f || c) (sym (ap (λ c. is_fact g f && c) (one_name x y true is) ∙ and_true (is_fact g f))))
+        ap (option_map (λ r. holds r f)) (own_after u v x y n t w h is) ∙ ap (λ c. Some c) (with_more f ∙ ap (λ c. holds t f || c) (sym (ap (λ c. g f && c) (one_name x y true is) ∙ and_true (g f))))
         ∙ sym (ap (option_map (λ c. c || alone g (y ∷ []) f x)) (ap (option_map (λ r. holds r f)) (own_before u v x y n t w h is)))
     by f x false is =
         ap (option_map (λ r. holds r f)) (others_stay u v x y n t w h is) ∙ kept (fact_at u f x)
-        ∙ ap (λ c. option_map (λ d. d || c) (fact_at u f x)) (sym (ap (λ c. is_fact g f && c) (one_name x y false is) ∙ and_false (is_fact g f)))
+        ∙ ap (λ c. option_map (λ d. d || c) (fact_at u f x)) (sym (ap (λ c. g f && c) (one_name x y false is) ∙ and_false (g f)))
 
 without_number : (u : Table) (y : Name) (f : Fact) (x : Name) → tally_of u y ≡ None → same_name x y ≡ true → fact_at u f x ≡ None
 without_number u y f x none same = ap (option_map (λ r. holds r f)) (ap (tally_of u) (same_name_path x y same) ∙ none)
 
-pub noted_unnumbered : (u : Table) (y : Name) (g : Fact) → tally_of u y ≡ None → Notes u u (alone g (y ∷ []))
+pub noted_unnumbered : (u : Table) (y : Name) (g : Fact → Bool) → tally_of u y ≡ None → Notes u u (alone g (y ∷ []))
 noted_unnumbered u y g none = λ f x. by f x (same_name x y) refl
   where
     by : (f : Fact) (x : Name) (b : Bool) → same_name x y ≡ b → fact_at u f x ≡ option_map (λ c. c || alone g (y ∷ []) f x) (fact_at u f x)
     by f x true is = let absent = without_number u y f x none is in absent ∙ sym (ap (option_map (λ c. c || alone g (y ∷ []) f x)) absent)
-    by f x false is = kept (fact_at u f x) ∙ ap (λ c. option_map (λ d. d || c) (fact_at u f x)) (sym (ap (λ c. is_fact g f && c) (one_name x y false is) ∙ and_false (is_fact g f)))
+    by f x false is = kept (fact_at u f x) ∙ ap (λ c. option_map (λ d. d || c) (fact_at u f x)) (sym (ap (λ c. g f && c) (one_name x y false is) ∙ and_false (g f)))
 
 pub past_the_end : (u : Table) (y : Name) (n m : ℕ) → position (same_name y) u.names ≡ Some n → m ≤ n → m ≡ vec_len u.tallies → tally_of u y ≡ None
 past_the_end u y n m number past len = ap (option_and_then (slice_get u.tallies.items)) number ∙ slice_get_past u.tallies.items n (omega (arith, past, len, u.tallies.ok.0))

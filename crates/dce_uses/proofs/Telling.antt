@@ -1,5 +1,5 @@
 -- What was noted in one walk is what a tree says of its names.
-use Rattle.std.proofs.Common.{◌≡◌, Bool, true, false, ◌||◌, ◌&&◌, ◌⊎◌, inl, inr, Some, None, refl, sym, ap, ap₂, ◌∙◌}
+use Rattle.std.proofs.Common.{◌≡◌, Bool, true, false, not, ◌||◌, ◌&&◌, ◌⊎◌, inl, inr, Some, None, refl, sym, ap, ap₂, ◌∙◌}
 use Rattle.std.specs.Prelude.{if◌then◌else◌}
 use Rattle.std.proofs.lemmas.Bool.{or_parts, or_cases, or_left, or_right, and_parts}
 use Rattle.swc_ast.specs.declared.AssignOp.{AssignOp}
@@ -12,7 +12,7 @@ use Rattle.dce_rules.specs.Uses.{target_read, read_by, read_in, read_among, decl
 use Rattle.dce_uses.specs.declared.place.Evals.TheVariants as evals
 use Rattle.dce_uses.specs.declared.place.Place.{Place}
 use Rattle.dce_uses.specs.declared.tally.Fact.TheVariants as fact
-use Rattle.dce_uses.specs.Noted.{written_by, function_name, evals_below, is_called, when, is_own_argument, below, noted, noted_among}
+use Rattle.dce_uses.specs.Noted.{function_name, is_plain, reads, writes, evals_below, is_called, is_own_argument, below, noted, noted_among}
 use Rattle.dce_uses.proofs.Adding.{or_false, or_grouped, or_swap, and_false}
 
 -- truth values
@@ -29,13 +29,21 @@ or_again false = refl
 
 -- reads and declarations
 
-mutual
-  pub reads : (x : Name) (p : Place) (t : Tree) → noted fact.Read x p t ≡ read_in x t
-  reads x p (node l ss cs) = ap₂ (λ a b. a || b) (or_false (has_name x (read_by l))) (reads_among x (below p l cs) cs)
+target_read_as : (x y : Name) (op : AssignOp) → (not (is_plain op) && (same_name x y || false)) ≡ has_name x (target_read op y)
+target_read_as x y Plain = refl
+target_read_as x y op = refl
 
-  reads_among : (x : Name) (p : Place) (ts : Forest) → noted_among fact.Read x p ts ≡ read_among x ts
-  reads_among x p ε = refl
-  reads_among x p (t ⊳ ts) = ap₂ (λ a b. a || b) (reads x p t) (reads_among x p ts)
+read_as : (x : Name) (l : Label) → (reads l && has_name x (named_by l)) ≡ has_name x (read_by l)
+read_as x (tree.Assign op y) = target_read_as x y op
+read_as x l = refl
+
+mutual
+  pub readings : (x : Name) (p : Place) (t : Tree) → noted fact.Read x p t ≡ read_in x t
+  readings x p (node l ss cs) = ap₂ (λ a b. a || b) (or_false (reads l && has_name x (named_by l)) ∙ read_as x l) (readings_among x (below p l cs) cs)
+
+  readings_among : (x : Name) (p : Place) (ts : Forest) → noted_among fact.Read x p ts ≡ read_among x ts
+  readings_among x p ε = refl
+  readings_among x p (t ⊳ ts) = ap₂ (λ a b. a || b) (readings x p t) (readings_among x p ts)
 
 mutual
   pub declarations : (x : Name) (p : Place) (t : Tree) → noted fact.Declared x p t ≡ declared_in x t
@@ -53,19 +61,14 @@ own_function x (tree.ExportDefaultFn (Some f)) = or_false (same_name x f)
 own_function x (tree.ExportDefaultFn None) = refl
 own_function x l = refl
 
-target_named : (x y : Name) (op : AssignOp) → (same_name x y || false) ≡ (has_name x (target_read op y) || (same_name x y || false))
-target_named x y Plain = refl
-target_named x y op = or_again (same_name x y || false)
+target_named : (b c : Bool) → c ≡ ((b && c) || (true && c))
+target_named true c = or_again c
+target_named false c = refl
 
-named_split : (x : Name) (l : Label) → has_name x (named_by l) ≡ (has_name x (read_by l) || has_name x (written_by l))
-named_split x (tree.Read y) = sym (or_false (same_name x y || false))
-named_split x (tree.CallEval y) = sym (or_false (same_name x y || false))
-named_split x (tree.Shorthand y) = sym (or_false (same_name x y || false))
-named_split x (tree.TypeOfName y) = sym (or_false (same_name x y || false))
-named_split x (tree.Assign op y) = target_named x y op
+named_split : (x : Name) (l : Label) → has_name x (named_by l) ≡ ((reads l && has_name x (named_by l)) || (writes l && has_name x (named_by l)))
+named_split x (tree.Assign op y) = target_named (not (is_plain op)) (same_name x y || false)
 named_split x (tree.Update op prefix y) = or_again (same_name x y || false)
-named_split x (tree.ExportSpecifier y t) = sym (or_false (same_name x y || false))
-named_split x l = refl
+named_split x l = sym (or_false (has_name x (named_by l)))
 
 joined : (b r w n used wrote outside : Bool) → n ≡ (r || w) → (used || wrote) ≡ outside → ((if b then false else ((r || false) || used)) || (if b then false else ((w || false) || wrote))) ≡ (if b then false else (n || outside))
 joined true r w n used wrote outside split rest = refl
@@ -75,7 +78,7 @@ joined false r w n used wrote outside split rest =
 mutual
   pub namings : (x : Name) (p : Place) (t : Tree) → (noted fact.Used x p t || noted fact.Written x p t) ≡ named_outside x t
   namings x p (node l ss cs) =
-      joined (has_name x (function_name l)) (has_name x (read_by l)) (has_name x (written_by l)) (has_name x (named_by l)) (noted_among fact.Used x (below p l cs) cs) (noted_among fact.Written x (below p l cs) cs) (outside_in x cs) (named_split x l) (namings_among x (below p l cs) cs)
+      joined (has_name x (function_name l)) (reads l && has_name x (named_by l)) (writes l && has_name x (named_by l)) (has_name x (named_by l)) (noted_among fact.Used x (below p l cs) cs) (noted_among fact.Written x (below p l cs) cs) (outside_in x cs) (named_split x l) (namings_among x (below p l cs) cs)
       ∙ ap (λ b. if b then false else (has_name x (named_by l) || outside_in x cs)) (own_function x l)
 
   namings_among : (x : Name) (p : Place) (ts : Forest) → (noted_among fact.Used x p ts || noted_among fact.Written x p ts) ≡ outside_in x ts
@@ -87,7 +90,7 @@ mutual
 mutual
   called : (x : Name) (p : Place) (t : Tree) → p.evals ≡ evals.Called → noted fact.Hidden x p t ≡ (declared_in x t || is_argument x t)
   called x p (node l ss cs) is =
-      ap₂ (λ e b. (has_name x (when (is_called e) (declared_by_node l)) || is_own_argument x l cs) || b) is (called_among x (below p l cs) cs (ap (evals_below l cs) is))
+      ap₂ (λ e b. ((is_called e && has_name x (declared_by_node l)) || is_own_argument x l cs) || b) is (called_among x (below p l cs) cs (ap (evals_below l cs) is))
       ∙ or_mix (has_name x (declared_by_node l)) (is_own_argument x l cs) (declared_among x cs) (argument_among x cs)
 
   called_among : (x : Name) (p : Place) (ts : Forest) → p.evals ≡ evals.Called → noted_among fact.Hidden x p ts ≡ (declared_among x ts || argument_among x ts)
@@ -98,7 +101,7 @@ mutual
 
 mutual
   uncalled : (x : Name) (p : Place) (t : Tree) → p.evals ≡ evals.Free → noted fact.Hidden x p t ≡ is_argument x t
-  uncalled x p (node l ss cs) is = ap₂ (λ e b. (has_name x (when (is_called e) (declared_by_node l)) || is_own_argument x l cs) || b) is (uncalled_among x (below p l cs) cs (ap (evals_below l cs) is))
+  uncalled x p (node l ss cs) is = ap₂ (λ e b. ((is_called e && has_name x (declared_by_node l)) || is_own_argument x l cs) || b) is (uncalled_among x (below p l cs) cs (ap (evals_below l cs) is))
 
   uncalled_among : (x : Name) (p : Place) (ts : Forest) → p.evals ≡ evals.Free → noted_among fact.Hidden x p ts ≡ argument_among x ts
   uncalled_among x p ε is = refl
@@ -152,7 +155,7 @@ hidings_by x p ts false eval is rest = rest is
 mutual
   pub hidings : (x : Name) (p : Place) (t : Tree) → p.evals ≡ evals.Outside → noted fact.Hidden x p t ≡ (is_argument x t || seen_by_eval x t)
   hidings x p (node l ss cs) is =
-      ap (λ e. (has_name x (when (is_called e) (declared_by_node l)) || is_own_argument x l cs) || noted_among fact.Hidden x (below p l cs) cs) is
+      ap (λ e. ((is_called e && has_name x (declared_by_node l)) || is_own_argument x l cs) || noted_among fact.Hidden x (below p l cs) cs) is
       ∙ below_outside (argument_among x cs) (declared_among x cs) (eval_among x cs) (is_own_argument x l cs) (noted_among fact.Hidden x (below p l cs) cs) (is_function l) (any_eval cs) (seen_among x cs) (unseen_among x cs)
       (hidings_by x (below p l cs) cs (is_function l) (any_eval cs) (ap (evals_below l cs) is) (λ q. hidings_among x (below p l cs) cs q))
 

@@ -16,14 +16,14 @@ use Rattle.dce_uses.specs.declared.tally.Fact.{Fact}
 use Rattle.dce_uses.specs.declared.tally.Fact.TheVariants as fact
 use Rattle.dce_uses.specs.declared.table.Table.{Table}
 use Rattle.dce_uses.specs.declared.uses.Uses.{Uses}
-use Rattle.dce_uses.specs.Noted.{noted, at_top}
+use Rattle.dce_uses.specs.Noted.{is_hiding, noted, at_top}
 use Rattle.dce_uses.specs.Listed.{listed}
 use Rattle.dce_uses.specs.Exports.{first_names, item_names, exported_names, is_nameless, any_nameless}
-use Rattle.dce_uses.specs.Tables.{Notes, Tells, fact_at, fact_of, is_fact, is_default, is_hidden}
+use Rattle.dce_uses.specs.Tables.{Notes, Tells, fact_at, fact_of, is_default, is_hidden}
 use Rattle.dce_uses.proofs.Adding.{next, or_false, or_true, or_grouped, or_swap, and_false}
 use Rattle.dce_uses.proofs.Counting.{alone}
 use Rattle.dce_uses.proofs.Numbering.{unnumbered}
-use Rattle.dce_uses.proofs.Telling.{reads, declarations, namings, hidings}
+use Rattle.dce_uses.proofs.Telling.{readings, declarations, namings, hidings}
 use Rattle.dce_uses.proofs.Absent.{absent, exports_absent, once_each}
 
 -- what is exported
@@ -90,10 +90,10 @@ plus_nothing a b = or_false a
 hidden_as : (h e d s : Bool) → s ≡ (e || d) → ((h || (true && e)) || d) ≡ (s || h)
 hidden_as h e d s is = or_grouped h e d ∙ ap (λ b. h || b) (sym is) ∙ or_swap h s
 
-pub tells : (u : Uses) (t : Tree) (exports : Name → Bool) → ((f : Fact) (x : Name) → fact_of u.table f x ≡ (noted f x at_top t || (is_fact fact.Hidden f && exports x))) → ((x : Name) → is_export_of x t ≡ (exports x || is_default u x)) → Tells u t
+pub tells : (u : Uses) (t : Tree) (exports : Name → Bool) → ((f : Fact) (x : Name) → fact_of u.table f x ≡ (noted f x at_top t || (is_hiding f && exports x))) → ((x : Name) → is_export_of x t ≡ (exports x || is_default u x)) → Tells u t
 tells u t exports facts said = record {
   free = λ x. ap₂ (λ a b. not (a || b)) (ap₂ (λ a b. a || b) (facts fact.Used x ∙ or_false _) (facts fact.Written x ∙ or_false _) ∙ namings x at_top t) (hidden x);
-  unread = λ x. ap₂ (λ a b. a && b) (facts fact.Declared x ∙ or_false _ ∙ declarations x at_top t) (ap₂ (λ a b. not (a || b)) (facts fact.Read x ∙ or_false _ ∙ reads x at_top t) (hidden x));
+  unread = λ x. ap₂ (λ a b. a && b) (facts fact.Declared x ∙ or_false _ ∙ declarations x at_top t) (ap₂ (λ a b. not (a || b)) (facts fact.Read x ∙ or_false _ ∙ readings x at_top t) (hidden x));
   held = λ x. facts fact.Held x ∙ or_false _;
   abroad = λ x. facts fact.Abroad x ∙ or_false _;
 }
@@ -103,12 +103,12 @@ tells u t exports facts said = record {
 
 -- a module
 
-pub module_told : (u : Uses) (start counted : Table) (names : List Name) (ss : List Span) (items : Forest) → names ≡ distinct (mentioned items) → ((f : Fact) (x : Name) → fact_at start f x ≡ option_map (λ n. false) (position (same_name x) names)) → Notes start counted (λ f x. noted f x at_top (node tree.Module ss items)) → Notes counted u.table (alone fact.Hidden (exported_names items)) → u.exports_default ≡ any_nameless items → Tells u (node tree.Module ss items)
+pub module_told : (u : Uses) (start counted : Table) (names : List Name) (ss : List Span) (items : Forest) → names ≡ distinct (mentioned items) → ((f : Fact) (x : Name) → fact_at start f x ≡ option_map (λ n. false) (position (same_name x) names)) → Notes start counted (λ f x. noted f x at_top (node tree.Module ss items)) → Notes counted u.table (alone is_hiding (exported_names items)) → u.exports_default ≡ any_nameless items → Tells u (node tree.Module ss items)
 module_told u start counted names ss items numbered empty counts exports unnamed =
     let t = node tree.Module ss items in
     tells u t (λ x. has_name x (exported_names items))
-    (known start u.table names (λ f x. noted f x at_top t || alone fact.Hidden (exported_names items) f x) empty (next start counted u.table (λ f x. noted f x at_top t) (alone fact.Hidden (exported_names items)) counts exports)
-    (λ f x none. let away = sym (once_each x (mentioned items)) ∙ sym (ap (has_name x) numbered) ∙ none in or_from (noted f x at_top t) (alone fact.Hidden (exported_names items) f x) (absent f x at_top t away) (ap (λ b. is_fact fact.Hidden f && b) (exports_absent x items away) ∙ and_false (is_fact fact.Hidden f))))
+    (known start u.table names (λ f x. noted f x at_top t || alone is_hiding (exported_names items) f x) empty (next start counted u.table (λ f x. noted f x at_top t) (alone is_hiding (exported_names items)) counts exports)
+    (λ f x none. let away = sym (once_each x (mentioned items)) ∙ sym (ap (has_name x) numbered) ∙ none in or_from (noted f x at_top t) (alone is_hiding (exported_names items) f x) (absent f x at_top t away) (ap (λ b. is_hiding f && b) (exports_absent x items away) ∙ and_false (is_hiding f))))
     (λ x. exported_as x items ∙ ap (λ b. has_name x (exported_names items) || (b && same_name x default_name)) (sym unnamed))
 
 -- a script
@@ -119,5 +119,5 @@ script_told u start names ss stmts numbered empty counts unnamed =
     tells u t (λ x. false)
     (λ f x. known start u.table names (λ f x. noted f x at_top t) empty counts
     (λ f x none. absent f x at_top t (sym (once_each x (mentioned stmts)) ∙ sym (ap (has_name x) numbered) ∙ none)) f x
-    ∙ sym (ap (λ b. noted f x at_top t || b) (and_false (is_fact fact.Hidden f)) ∙ or_false (noted f x at_top t)))
+    ∙ sym (ap (λ b. noted f x at_top t || b) (and_false (is_hiding f)) ∙ or_false (noted f x at_top t)))
     (λ x. sym (ap (λ b. b && same_name x default_name) unnamed))

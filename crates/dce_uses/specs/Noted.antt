@@ -7,18 +7,12 @@ use Rattle.swc_ast.specs.Tree.{Name, Label, Assign, Update, Params, Block, Decla
 use Rattle.swc_ast.specs.Scope.{is_function, has_name, option_name, param_names}
 use Rattle.swc_ast.specs.Resolved.{params_of}
 use Rattle.swc_ast.specs.Reach.{named_by}
-use Rattle.dce_rules.specs.Uses.{read_by, has_arguments, any_arguments, any_eval, declared_by_node}
+use Rattle.dce_rules.specs.Uses.{has_arguments, any_arguments, any_eval, declared_by_node}
 use Rattle.dce_uses.specs.declared.place.Evals.{Evals}
 use Rattle.dce_uses.specs.declared.place.Evals.TheVariants as evals
 use Rattle.dce_uses.specs.declared.place.Place.{Place}
 use Rattle.dce_uses.specs.declared.tally.Fact.{Fact}
 use Rattle.dce_uses.specs.declared.tally.Fact.TheVariants as fact
-
--- the name that a node itself writes: by an assignment or an update
-abbrev pub written_by : Label → List Name
-written_by (Assign op x) = x ∷ []
-written_by (Update op prefix x) = x ∷ []
-written_by _ = []
 
 -- the name of a function that a node declares
 abbrev pub function_name : Label → List Name
@@ -34,6 +28,17 @@ is_declaration _ = false
 abbrev pub is_plain : AssignOp → Bool
 is_plain Plain = true
 is_plain op = false
+
+-- whether a node that names something reads it: all but plain assignments
+abbrev pub reads : Label → Bool
+reads (Assign op x) = not (is_plain op)
+reads _ = true
+
+-- whether a node that names something writes it: by an assignment or an update
+abbrev pub writes : Label → Bool
+writes (Assign op x) = true
+writes (Update op prefix x) = true
+writes _ = false
 
 abbrev pub is_params : Label → Bool
 is_params Params = true
@@ -68,24 +73,33 @@ below p l cs = record { in_function = has_arguments l || p.in_function; in_block
 abbrev pub at_top : Place
 at_top = record { in_function = false; in_block = false; in_declaration = false; evals = evals.Outside }
 
--- names that count only where something holds
-abbrev pub when : Bool → List Name → List Name
-when b xs = if b then xs else []
+-- what a node says of the name that it reads or writes
+abbrev pub naming : Fact → Place → Label → Bool
+naming fact.Used p l = reads l
+naming fact.Read p l = reads l
+naming fact.Written p l = writes l
+naming fact.Abroad p l = not p.in_declaration
+naming _ p l = false
+
+-- what a node says of the name that it declares
+abbrev pub declaring : Fact → Place → Label → Bool
+declaring fact.Declared p l = true
+declaring fact.Held p l = not (lets_go p l)
+declaring fact.Hidden p l = is_called p.evals
+declaring _ p l = false
+
+-- that a name is used without being named
+abbrev pub is_hiding : Fact → Bool
+is_hiding fact.Hidden = true
+is_hiding _ = false
 
 -- what a node says of a name by reading or writing it
 abbrev pub by_naming : Fact → Name → Place → Label → Bool
-by_naming fact.Used x p l = has_name x (read_by l)
-by_naming fact.Read x p l = has_name x (read_by l)
-by_naming fact.Written x p l = has_name x (written_by l)
-by_naming fact.Abroad x p l = has_name x (when (not p.in_declaration) (named_by l))
-by_naming _ x p l = false
+by_naming f x p l = naming f p l && has_name x (named_by l)
 
 -- what a node says of a name by declaring it
 abbrev pub by_declaring : Fact → Name → Place → Label → Bool
-by_declaring fact.Declared x p l = has_name x (declared_by_node l)
-by_declaring fact.Held x p l = has_name x (when (not (lets_go p l)) (declared_by_node l))
-by_declaring fact.Hidden x p l = has_name x (when (is_called p.evals) (declared_by_node l))
-by_declaring _ x p l = false
+by_declaring f x p l = declaring f p l && has_name x (declared_by_node l)
 
 -- whether a name is a parameter of a function that names `arguments`
 abbrev pub is_own_argument : Name → Label → Forest → Bool
@@ -93,8 +107,7 @@ is_own_argument x l cs = has_arguments l && (any_arguments cs && has_name x (par
 
 -- what a function says of its parameters by naming `arguments`
 abbrev pub by_arguments : Fact → Name → Label → Forest → Bool
-by_arguments fact.Hidden x l cs = is_own_argument x l cs
-by_arguments _ x l cs = false
+by_arguments f x l cs = is_hiding f && is_own_argument x l cs
 
 -- what a node says by itself
 abbrev pub own : Fact → Name → Place → Label → Forest → Bool

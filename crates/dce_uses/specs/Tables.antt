@@ -10,18 +10,6 @@ use Rattle.dce_uses.specs.declared.table.Table.{Table}
 use Rattle.dce_uses.specs.declared.uses.Uses.{Uses}
 use Rattle.dce_uses.specs.Noted.{noted, at_top, is_counted}
 
--- whether noting a fact tells another: itself, and a use is a read
-abbrev pub is_fact : Fact → Fact → Bool
-is_fact fact.Used fact.Used = true
-is_fact fact.Used fact.Read = true
-is_fact fact.Read fact.Read = true
-is_fact fact.Written fact.Written = true
-is_fact fact.Abroad fact.Abroad = true
-is_fact fact.Declared fact.Declared = true
-is_fact fact.Held fact.Held = true
-is_fact fact.Hidden fact.Hidden = true
-is_fact _ _ = false
-
 -- whether a fact was noted
 abbrev pub holds : Tally → Fact → Bool
 holds t fact.Used = not (t.uses == 0)

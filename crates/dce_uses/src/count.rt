@@ -1,52 +1,44 @@
 //! The walk that counts.
-ghost use Rattle.std.specs.Prelude.{◌≡◌, not};
-ghost use Rattle.swc_ast.specs.Reach.{named_by};
+ghost use Rattle.std.specs.Prelude.{◌≡◌};
 ghost use Rattle.swc_visit.specs.Kinds.{kind_label};
 ghost use Rattle.swc_visit.specs.Nodes.{node_tree, children_forest};
 ghost use Rattle.swc_names.specs.Ids.{optional};
-ghost use Rattle.dce_rules.specs.Uses.{declared_by_node};
 ghost use Rattle.dce_uses.specs.Noted as noted;
-ghost use Rattle.dce_uses.specs.Tables.{Notes, IsBefore};
+ghost use Rattle.dce_uses.specs.Tables.{Notes, IsBefore, holds};
+ghost use Rattle.dce_uses.specs.declared.tally.Fact as facts;
 
-use crate::labels::{declared_name, function_name, has_arguments, named, read_name, written_name};
+use crate::labels::{declared_name, function_name, has_arguments, is_read, is_written, named};
 use crate::listed::Part;
 use crate::place::Place;
 use crate::scans::{any_arguments, params_of};
 use crate::table::Table;
-use crate::tally::{Fact, Tally};
+use crate::tally::{Tally, once};
 use swc_ast::Ident;
 use swc_visit::{Children, Kind, Node};
 
-/// The name that a node reads or writes outside all declarations of functions.
-fn named_abroad<'a>(kind: Kind<'a>, place: Place) -> Option<&'a Ident>
-    ensures { optional result ≡ noted.when (not place.in_declaration) (named_by (kind_label kind.entry)) }
+/// What a node says of the name that it reads or writes.
+fn naming(kind: Kind<'_>, place: Place) -> Tally
+    ensures { (f : facts.Fact) → holds result f ≡ noted.naming f place (kind_label kind.entry) }
 {
-    if place.in_declaration {
-        None
-    } else {
-        named(kind)
+    let is_read = is_read(kind);
+    Tally {
+        uses: once(is_read),
+        writes: once(is_written(kind)),
+        is_read,
+        is_abroad: !place.in_declaration,
+        ..Tally::empty()
     }
 }
 
-/// The name that a node declares at the top level.
-fn held_name<'a>(kind: Kind<'a>, place: Place) -> Option<&'a Ident>
-    ensures { optional result ≡ noted.when (not (noted.lets_go place (kind_label kind.entry))) (declared_by_node (kind_label kind.entry)) }
+/// What a node says of the name that it declares.
+fn declaring(kind: Kind<'_>, place: Place) -> Tally
+    ensures { (f : facts.Fact) → holds result f ≡ noted.declaring f place (kind_label kind.entry) }
 {
-    if place.lets_go(kind) {
-        None
-    } else {
-        declared_name(kind)
-    }
-}
-
-/// The name that a node declares where `eval` sees it.
-fn seen_name<'a>(kind: Kind<'a>, place: Place) -> Option<&'a Ident>
-    ensures { optional result ≡ noted.when (noted.is_called place.evals) (declared_by_node (kind_label kind.entry)) }
-{
-    if place.is_seen() {
-        declared_name(kind)
-    } else {
-        None
+    Tally {
+        is_declared: true,
+        is_held: !place.lets_go(kind),
+        is_hidden: place.is_seen(),
+        ..Tally::empty()
     }
 }
 
@@ -89,18 +81,18 @@ impl Table {
     fn note_named(&mut self, kind: Kind<'_>, place: Place)
         ensures { Notes self.old self.new (λ f x. noted.by_naming f x place (kind_label kind.entry)) }
     {
-        self.add(read_name(kind), Fact::Used);
-        self.add(written_name(kind), Fact::Written);
-        self.add(named_abroad(kind, place), Fact::Abroad);
+        if let Some(name) = named(kind) {
+            self.add_all(name, naming(kind, place));
+        }
     }
 
     /// Notes the name that a node declares.
     fn note_declared(&mut self, kind: Kind<'_>, place: Place)
         ensures { Notes self.old self.new (λ f x. noted.by_declaring f x place (kind_label kind.entry)) }
     {
-        self.add(declared_name(kind), Fact::Declared);
-        self.add(held_name(kind, place), Fact::Held);
-        self.add(seen_name(kind, place), Fact::Hidden);
+        if let Some(name) = declared_name(kind) {
+            self.add_all(name, declaring(kind, place));
+        }
     }
 
     /// Notes the parameters of a function that names `arguments`.

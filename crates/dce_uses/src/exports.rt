@@ -4,12 +4,11 @@ ghost use Rattle.swc_ast.specs.Scope.{has_name};
 ghost use Rattle.swc_visit.specs.Kinds.{kind_label};
 ghost use Rattle.swc_visit.specs.Nodes.{children_forest};
 ghost use Rattle.dce_uses.specs.Exports as exports;
-ghost use Rattle.dce_uses.specs.Tables.{Notes, is_fact};
-ghost use Rattle.dce_uses.specs.declared.tally.Fact.TheVariants as fact;
+ghost use Rattle.dce_uses.specs.Noted.{is_hiding};
+ghost use Rattle.dce_uses.specs.Tables.{Notes};
 
 use crate::listed::Part;
 use crate::table::Table;
-use crate::tally::Fact;
 use swc_visit::{Children, Kind};
 
 /// Whether a node is a default export without a name.
@@ -44,7 +43,7 @@ pub(crate) fn any_nameless(items: Children<'_>) -> bool
 impl Table {
     /// Notes the names that items export: they are used.
     pub(crate) fn note_exports(&mut self, items: Children<'_>)
-        ensures { Notes self.old self.new (λ f x. is_fact fact.Hidden f && has_name x (exports.exported_names (children_forest items.entry))) }
+        ensures { Notes self.old self.new (λ f x. is_hiding f && has_name x (exports.exported_names (children_forest items.entry))) }
     {
         let mut left = items;
         while let Some((item, rest)) = left.next() {
@@ -56,19 +55,19 @@ impl Table {
 
     /// Notes the names that an item exports.
     fn note_exported(&mut self, kind: Kind<'_>, children: Children<'_>)
-        ensures { Notes self.old self.new (λ f x. is_fact fact.Hidden f && has_name x (exports.item_names (kind_label kind.entry) (children_forest children.entry))) }
+        ensures { Notes self.old self.new (λ f x. is_hiding f && has_name x (exports.item_names (kind_label kind.entry) (children_forest children.entry))) }
     {
         match kind {
             Kind::ExportDecl => self.note_declaration(children),
             Kind::ExportNamed => self.note_listed(children, Part::Specifiers),
-            Kind::ExportDefaultFn(name) => self.add(name.as_ref(), Fact::Hidden),
+            Kind::ExportDefaultFn(name) => self.hide(name.as_ref()),
             _ => {}
         }
     }
 
     /// Notes the names of an exported declaration, the first of the children.
     fn note_declaration(&mut self, children: Children<'_>)
-        ensures { Notes self.old self.new (λ f x. is_fact fact.Hidden f && has_name x (exports.first_names (children_forest children.entry))) }
+        ensures { Notes self.old self.new (λ f x. is_hiding f && has_name x (exports.first_names (children_forest children.entry))) }
     {
         let Some((declaration, _)) = children.next() else {
             return;
@@ -76,7 +75,7 @@ impl Table {
         let opened = declaration.open();
         match opened.kind {
             Kind::VarDecl(_) => self.note_listed(opened.children, Part::Declarators),
-            Kind::FnDecl(name) => self.add(Some(name), Fact::Hidden),
+            Kind::FnDecl(name) => self.hide(Some(name)),
             _ => {}
         }
     }

@@ -19,30 +19,23 @@ fn is_plain(op: AssignOp) -> bool
     }
 }
 
-/// The name that a node itself reads or exports.
-#[tactic(auto, using(crate::proofs::Said::plain_target, crate::proofs::Said::read_target))]
-pub(crate) fn read_name<'a>(kind: Kind<'a>) -> Option<&'a Ident>
-    ensures { optional result ≡ uses.read_by (kind_label kind.entry) }
+/// Whether a node that names something reads it: all but plain assignments do.
+pub(crate) fn is_read(kind: Kind<'_>) -> bool
+    ensures { result ≡ noted.reads (kind_label kind.entry) }
 {
     match kind {
-        Kind::Read(name)
-        | Kind::CallEval(name)
-        | Kind::Shorthand(name)
-        | Kind::TypeOfName(name)
-        | Kind::Update(_, _, name) => Some(name),
-        Kind::Assign(op, name) => { if is_plain(op) { None } else { Some(name) } }
-        Kind::ExportSpecifier(n) => Some(&n.orig),
-        _ => None,
+        Kind::Assign(op, _) => !is_plain(op),
+        _ => true,
     }
 }
 
-/// The name that a node itself writes.
-pub(crate) fn written_name<'a>(kind: Kind<'a>) -> Option<&'a Ident>
-    ensures { optional result ≡ noted.written_by (kind_label kind.entry) }
+/// Whether a node that names something writes it.
+pub(crate) fn is_written(kind: Kind<'_>) -> bool
+    ensures { result ≡ noted.writes (kind_label kind.entry) }
 {
     match kind {
-        Kind::Assign(_, name) | Kind::Update(_, _, name) => Some(name),
-        _ => None,
+        Kind::Assign(_, _) | Kind::Update(_, _, _) => true,
+        _ => false,
     }
 }
 

@@ -5,11 +5,10 @@ ghost use Rattle.swc_visit.specs.Kinds.{kind_label};
 ghost use Rattle.swc_visit.specs.Nodes.{children_forest};
 ghost use Rattle.swc_names.specs.Ids.{optional};
 ghost use Rattle.dce_uses.specs.Listed.{listed, listed_name};
-ghost use Rattle.dce_uses.specs.Tables.{Notes, is_fact};
-ghost use Rattle.dce_uses.specs.declared.tally.Fact.TheVariants as fact;
+ghost use Rattle.dce_uses.specs.Noted.{is_hiding};
+ghost use Rattle.dce_uses.specs.Tables.{Notes};
 
 use crate::table::Table;
-use crate::tally::Fact;
 use swc_ast::Ident;
 use swc_visit::{Children, Kind};
 
@@ -45,11 +44,11 @@ fn name_in_list<'a>(kind: Kind<'a>, part: Part) -> Option<&'a Ident>
 impl Table {
     /// Notes that the names of a list are used without being named.
     pub(crate) fn note_listed(&mut self, children: Children<'_>, part: Part)
-        ensures { Notes self.old self.new (λ f x. is_fact fact.Hidden f && has_name x (listed part (children_forest children.entry))) }
+        ensures { Notes self.old self.new (λ f x. is_hiding f && has_name x (listed part (children_forest children.entry))) }
     {
         let mut left = children;
         while let Some((child, rest)) = left.next() {
-            self.add(name_in_list(child.open().kind, part), Fact::Hidden);
+            self.hide(name_in_list(child.open().kind, part));
             left = rest;
         }
     }

@@ -1,13 +1,14 @@
 //! A table of what a tree says of its names.
-ghost use Rattle.std.specs.Prelude.{◌≡◌, ◌&&◌, IfOk, false, option_map, position};
+ghost use Rattle.std.specs.Prelude.{◌≡◌, ◌&&◌, IfOk, false, [], ◌∷◌, option_map, position};
 ghost use Rattle.swc_ast.specs.Parts.{ident_name};
 ghost use Rattle.swc_ast.specs.Scope.{has_name};
 ghost use Rattle.swc_ast.specs.Tree.{Name, same_name};
 ghost use Rattle.swc_names.specs.Ids.{optional};
-ghost use Rattle.dce_uses.specs.Tables.{Notes, Restores, tally_of, fact_at, is_fact};
+ghost use Rattle.dce_uses.specs.Noted.{is_hiding};
+ghost use Rattle.dce_uses.specs.Tables.{Notes, Restores, tally_of, fact_at, holds};
 ghost use Rattle.dce_uses.specs.declared.tally.Fact as facts;
 
-use crate::tally::{Fact, Tally};
+use crate::tally::Tally;
 use std::alloc::{AllocError, Global};
 use swc_ast::Ident;
 use swc_names::Names;
@@ -40,18 +41,24 @@ impl Table {
         }
     }
 
-    /// Notes a fact of a name, if there is one.
-    pub(crate) fn add(&mut self, name: Option<&Ident>, fact: Fact)
-        ensures { Notes self.old self.new (λ f x. is_fact fact f && has_name x (optional name.entry)) }
+    /// Notes more of a name.
+    pub(crate) fn add_all(&mut self, name: &Ident, more: Tally)
+        ensures { Notes self.old self.new (λ f x. holds more f && has_name x (ident_name name.now ∷ [])) }
     {
-        let Some(name) = name else {
-            return;
-        };
         let Some(number) = self.names.number_of(name) else {
             return;
         };
         if number < self.tallies.len() {
-            self.tallies[number] = self.tallies[number].with(fact);
+            self.tallies[number] = self.tallies[number].and(more);
+        }
+    }
+
+    /// Notes that a name, if there is one, is used without being named.
+    pub(crate) fn hide(&mut self, name: Option<&Ident>)
+        ensures { Notes self.old self.new (λ f x. is_hiding f && has_name x (optional name.entry)) }
+    {
+        if let Some(name) = name {
+            self.add_all(name, Tally::hidden());
         }
     }
 

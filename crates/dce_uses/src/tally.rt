@@ -1,7 +1,7 @@
 //! What is noted of one name.
-ghost use Rattle.std.specs.Prelude.{◌≡◌, ◌||◌, false, if◌then◌else◌};
-ghost use Rattle.dce_uses.specs.Tables.{holds, is_fact};
-ghost use Rattle.dce_uses.specs.Noted.{is_counted};
+ghost use Rattle.std.specs.Prelude.{◌≡◌, ◌==◌, ◌||◌, not, false, if◌then◌else◌};
+ghost use Rattle.dce_uses.specs.Tables.{holds};
+ghost use Rattle.dce_uses.specs.Noted.{is_counted, is_hiding};
 ghost use Rattle.dce_uses.specs.declared.tally.Fact as facts;
 
 /// A fact that a tree may tell of a name.
@@ -35,6 +35,13 @@ pub(crate) struct Tally {
     pub(crate) is_hidden: bool,
 }
 
+/// A counter of what happened once, or not at all.
+pub(crate) fn once(happened: bool) -> u32
+    ensures { not (result == 0) ≡ happened }
+{
+    u32::from(happened)
+}
+
 impl Tally {
     /// Nothing was noted.
     pub(crate) fn empty() -> Tally
@@ -66,24 +73,29 @@ impl Tally {
         }
     }
 
-    /// The same with one fact more; a use is a read too.
-    pub(crate) fn with(self, fact: Fact) -> Tally
-        ensures { (f : facts.Fact) → holds result f ≡ (holds self f || is_fact fact f) }
+    /// That a name is used without being named.
+    pub(crate) fn hidden() -> Tally
+        ensures { (f : facts.Fact) → holds result f ≡ is_hiding f }
     {
-        let mut tally = self;
-        match fact {
-            Fact::Used => {
-                tally.uses = tally.uses.saturating_add(1);
-                tally.is_read = true;
-            }
-            Fact::Written => tally.writes = tally.writes.saturating_add(1),
-            Fact::Read => tally.is_read = true,
-            Fact::Abroad => tally.is_abroad = true,
-            Fact::Declared => tally.is_declared = true,
-            Fact::Held => tally.is_held = true,
-            Fact::Hidden => tally.is_hidden = true,
+        Tally {
+            is_hidden: true,
+            ..Tally::empty()
         }
-        tally
+    }
+
+    /// What was noted in either of two.
+    pub(crate) fn and(self, other: Tally) -> Tally
+        ensures { (f : facts.Fact) → holds result f ≡ (holds self f || holds other f) }
+    {
+        Tally {
+            uses: self.uses.saturating_add(other.uses),
+            writes: self.writes.saturating_add(other.writes),
+            is_read: self.is_read || other.is_read,
+            is_abroad: self.is_abroad || other.is_abroad,
+            is_declared: self.is_declared || other.is_declared,
+            is_held: self.is_held || other.is_held,
+            is_hidden: self.is_hidden || other.is_hidden,
+        }
     }
 
     /// The same with the counters of another.

@@ -1,7 +1,7 @@
 -- What a view of an expression is not, by the expression's form.
 use Rattle.std.proofs.Common.{◌≡◌, ◌<◌, ◌≤◌, ℕ, pos, zero, Bool, true, false, not, if◌then◌else◌, refl, sym, ap, ◌∙◌, ◌==◌, subst, List, length, ◌∷◌, [], arith}
-use Rattle.std.proofs.lemmas.Bool.{false≢true, true≢false}
-use Rattle.swc_ast.specs.Expressions.{unary_node, unary_tree, param_tree}
+use Rattle.std.proofs.lemmas.Bool.{true≢false}
+use Rattle.swc_ast.specs.Expressions.{unary_node, param_tree}
 use Rattle.swc_ast.specs.Parts.{leaf, ident_name, list_trees}
 use Rattle.swc_ast.specs.Redex.{is_zero, is_delete}
 use Rattle.swc_ast.specs.Tree as tree
@@ -31,7 +31,7 @@ use Rattle.swc_walk.specs.declared.rules.Place.{Place}
 use Rattle.expr_rules.specs.Defaults.{is_void}
 use Rattle.expr_rules.specs.Leaves.{guarded}
 use Rattle.expr_places.specs.Places.{is_shielding, is_shield, nowhere, shielded}
-use Rattle.expr_places.specs.Dropped.{Dropped, dropped}
+use Rattle.expr_places.specs.Dropped.{Dropped, dropped, has_void_default}
 
 form_of : (p : ExprForm) (e : Expr) → roll-Expr p ≡ e → expr_form (label_of (expr_tree e)) ≡ expr_number p
 form_of p e r = ap (λ x. expr_form (label_of (expr_tree x))) (sym r) ∙ expr_at p
@@ -64,16 +64,19 @@ other_shield q e others = by (out-Expr e) (roll-out-Expr e)
 
 -- `void` and no other operator
 
-no_void : (mark : ℕ) (t : Tree) (n : ℕ) → expr_form (label_of t) ≡ n → (n == 5) ≡ false → is_undefined mark t ≡ is_void mark t
-no_void mark (node (tree.Unary o) ss cs) n h k = absurd (true≢false (ap (λ m. m == 5) h ∙ k))
-no_void mark (node l ss cs) n h k = refl
+not_unary : (e : Expr) → ((n : _) → e ≡ in_expr.Unary n → ⊥) → (expr_form (label_of (expr_tree e)) == 5) ≡ false
+not_unary e others = by (out-Expr e) (roll-out-Expr e)
+  where
+    by : (p : ExprForm) → roll-Expr p ≡ e → (expr_form (label_of (expr_tree e)) == 5) ≡ false
+    by (Open.Unary n) r = absurd (others n (sym r ∙ in_expr.rolls-Unary n))
+    by p r = ap (λ m. m == 5) (form_of p e r)
+
+no_void : (mark : ℕ) (t : Tree) → (expr_form (label_of t) == 5) ≡ false → is_undefined mark t ≡ is_void mark t
+no_void mark (node (tree.Unary o) ss cs) h = absurd (true≢false h)
+no_void mark (node l ss cs) h = refl
 
 pub other_void : (mark : ℕ) (e : Expr) → ((n : _) → e ≡ in_expr.Unary n → ⊥) → is_undefined mark (expr_tree e) ≡ is_void mark (expr_tree e)
-other_void mark e others = by (out-Expr e) (roll-out-Expr e)
-  where
-    by : (p : ExprForm) → roll-Expr p ≡ e → is_undefined mark (expr_tree e) ≡ is_void mark (expr_tree e)
-    by (Open.Unary n) r = absurd (others n (sym r ∙ in_expr.rolls-Unary n))
-    by p r = no_void mark (expr_tree e) (expr_number p) (form_of p e r) refl
+other_void mark e others = no_void mark (expr_tree e) (not_unary e others)
 
 void_is : (mark : ℕ) (s : Span) (t : Tree) → is_void mark (unary_node op.Void s t) ≡ pure mark t
 unfolding unary_node
@@ -107,6 +110,10 @@ void_not_at mark e n is h = sym (ap (λ x. is_void mark (expr_tree x)) is ∙ ap
 pub without_default : (mark : ℕ) (p : Pat Expr) (n : AssignPat Expr) (x : Ident) → p ≡ pat.Assign n → x ≡ n.left → is_void mark (expr_tree n.right.value) ≡ true → Dropped mark (param_tree expr_tree p) (leaf (tree.Param (ident_name x)) x.span)
 without_default mark p n x is same h = subst (λ q. Dropped mark (param_tree expr_tree q) (leaf (tree.Param (ident_name x)) x.span)) (sym is) (subst (λ y. Dropped mark (param_tree expr_tree (pat.Assign n)) (leaf (tree.Param (ident_name y)) y.span)) (sym same) (dropped _ _ _ _ h))
 
+-- a parameter with a default
+pub default_told : (mark : ℕ) (p : Pat Expr) (n : AssignPat Expr) (b : Bool) → p ≡ pat.Assign n → is_void mark (expr_tree n.right.value) ≡ b → b ≡ has_void_default mark (param_tree expr_tree p)
+default_told mark p n b is h = sym (ap (λ q. has_void_default mark (param_tree expr_tree q)) is ∙ h)
+
 -- a sequence of two items alone shields
 pub short_list : (p : Place) (xs : List Expr) → length xs < 2 → false ≡ is_shielding p (list_trees expr_tree xs)
 short_list p [] h = refl
@@ -131,7 +138,35 @@ guarded_at e n s items =
 pub shielded_at : (p : Place) (t u : Tree) → stands_alone p t ≡ false → u ≡ guarded (nowhere ∷ []) (nowhere ∷ []) t → u ≡ shielded p t
 shielded_at p t u h is = is ∙ sym (ap (λ b. if b then t else guarded (nowhere ∷ []) (nowhere ∷ []) t) h)
 
--- `delete`
-pub delete_label : (n : UnaryExpr Expr) (e : Expr) → e ≡ in_expr.Unary n → n.op ≡ op.Delete → is_delete (label_of (expr_tree e)) ≡ true
+-- `delete` and no other operator
+
+unary_label : (n : UnaryExpr Expr) (e : Expr) → e ≡ in_expr.Unary n → is_delete (label_of (expr_tree e)) ≡ is_delete (label_of (unary_node n.op n.span (expr_tree n.arg.value)))
+unary_label n e h = ap (λ t. is_delete (label_of t)) (ap expr_tree h ∙ expr_tree-Unary n)
+
+delete_is : (s : Span) (t : Tree) → is_delete (label_of (unary_node op.Delete s t)) ≡ true
 unfolding unary_node
-delete_label n e h i = ap (λ t. is_delete (label_of t)) (ap expr_tree h ∙ expr_tree-Unary n ∙ ap (λ o. unary_node o n.span (expr_tree n.arg.value)) i)
+delete_is s t = refl
+
+pub delete_at : (n : UnaryExpr Expr) (e : Expr) → e ≡ in_expr.Unary n → n.op ≡ op.Delete → true ≡ is_delete (label_of (expr_tree e))
+delete_at n e h i = sym (unary_label n e h ∙ ap (λ o. is_delete (label_of (unary_node o n.span (expr_tree n.arg.value)))) i ∙ delete_is n.span (expr_tree n.arg.value))
+
+not_delete : (o : UnaryOp) (s : Span) (t : Tree) → (o ≡ op.Delete → ⊥) → is_delete (label_of (unary_node o s t)) ≡ false
+unfolding unary_node
+not_delete op.Delete s t h = absurd (h refl)
+not_delete op.TypeOf s (node (tree.Read x) ss cs) h = refl
+not_delete op.TypeOf s (node l ss cs) h = refl
+not_delete op.Minus s t h = refl
+not_delete op.Plus s t h = refl
+not_delete op.Bang s t h = refl
+not_delete op.Tilde s t h = refl
+not_delete op.Void s t h = refl
+
+pub delete_not_at : (n : UnaryExpr Expr) (e : Expr) → e ≡ in_expr.Unary n → (n.op ≡ op.Delete → ⊥) → false ≡ is_delete (label_of (expr_tree e))
+delete_not_at n e h i = sym (unary_label n e h ∙ not_delete n.op n.span (expr_tree n.arg.value) i)
+
+no_delete : (t : Tree) → (expr_form (label_of t) == 5) ≡ false → false ≡ is_delete (label_of t)
+no_delete (node (tree.Unary o) ss cs) h = absurd (true≢false h)
+no_delete (node l ss cs) h = refl
+
+pub other_delete : (e : Expr) → ((n : _) → e ≡ in_expr.Unary n → ⊥) → false ≡ is_delete (label_of (expr_tree e))
+other_delete e others = no_delete (expr_tree e) (not_unary e others)

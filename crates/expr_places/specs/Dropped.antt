@@ -8,6 +8,11 @@ use Rattle.expr_rules.specs.Defaults.{is_void}
 pub data Dropped (mark : ℕ) : Tree → Tree → Type 0 where
   dropped : (x : Name) (ss rs : List Span) (d : Tree) → is_void mark d ≡ true → Dropped mark (node (Param x) ss (d ⊳ ε)) (node (Param x) rs ε)
 
+-- a parameter whose default is undefined anyway
+abbrev pub has_void_default : ℕ → Tree → Bool
+has_void_default mark (node (Param x) ss (d ⊳ ε)) = is_void mark d
+has_void_default mark t = false
+
 -- that, or what it was
 abbrev pub MayDrop : ℕ → Bool → Tree → Tree → Type 0
 MayDrop mark true t u = Dropped mark t u

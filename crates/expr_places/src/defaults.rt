@@ -4,7 +4,7 @@ ghost use Rattle.swc_ast.specs.Expressions.{param_tree};
 ghost use Rattle.swc_ast.specs.Views.{expr_tree};
 ghost use Rattle.swc_utils.specs.Globals.{unresolved};
 ghost use Rattle.expr_rules.specs.Defaults as rules;
-ghost use Rattle.expr_places.specs.Dropped.{MayDrop};
+ghost use Rattle.expr_places.specs.Dropped.{MayDrop, has_void_default};
 
 use std::alloc::{AllocError, Global};
 use std::mem;
@@ -28,7 +28,8 @@ fn is_void(ctx: &ExprCtx, e: &Expr) -> bool
 /// Drops the default of a parameter where it is `undefined`, or `void` of an expression without effects: without one a
 /// parameter is undefined too (ECMA-262, 8.6.3). Answers whether it did; where it didn't the parameter is as it was.
 pub fn drop_default(alloc: Global, ctx: &ExprCtx, p: &mut Pat) -> bool
-    ensures { MayDrop (unresolved ctx.now) result (param_tree expr_tree p.old) (param_tree expr_tree p.new) }
+    ensures step { MayDrop (unresolved ctx.now) result (param_tree expr_tree p.old) (param_tree expr_tree p.new) }
+    ensures goes { result ≡ has_void_default (unresolved ctx.now) (param_tree expr_tree p.old) }
 {
     match p {
         Pat::Ident(_) => false,

@@ -1,6 +1,6 @@
 //! Places where a member or a name would mean something else than an expression of its value: a call of a member hands on
 //! its object, a call of `eval` is direct, and `typeof` of a name doesn't throw.
-ghost use Rattle.std.specs.Prelude.{◌≡◌, ◌≤◌, ◌+◌, IfOk, IsTrue, true, [], ◌∷◌};
+ghost use Rattle.std.specs.Prelude.{◌≡◌, ◌≤◌, ◌+◌, IfOk, [], ◌∷◌};
 ghost use Rattle.swc_ast.specs.Parts.{list_trees};
 ghost use Rattle.swc_ast.specs.Redex as redex;
 ghost use Rattle.swc_ast.specs.Views.{expr_tree};
@@ -81,8 +81,9 @@ pub fn shielded(alloc: Global, place: Place, e: Expr) -> Result<Expr, AllocError
 }
 
 /// Whether an expression is `delete` of something. Its operand is a reference, and no pass enters it.
+#[tactic(auto, using(swc_ast::proofs::Equations::forms))]
 pub fn is_delete(e: &Expr) -> bool
-    ensures { IsTrue result → redex.is_delete (label_of (expr_tree e.now)) ≡ true }
+    ensures { result ≡ redex.is_delete (label_of (expr_tree e.now)) }
 {
     match e {
         Expr::Unary(n) => match n.op {

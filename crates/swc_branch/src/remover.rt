@@ -1,5 +1,5 @@
 //! The pass.
-ghost use Rattle.std.specs.Prelude.{◌≡◌, false};
+ghost use Rattle.std.specs.Prelude.{◌≡◌, false, codes};
 ghost use Rattle.swc_ast.specs.declared.names.Mark.{Mark};
 ghost use Rattle.swc_ast.specs.Marks.{mark_number};
 ghost use Rattle.swc_utils.specs.Globals.{unresolved};
@@ -62,6 +62,8 @@ impl Repeated for Remover {
 }
 
 impl CompilerPass for Remover {
+    ghost its_name = { codes "branch" };
+
     /// `branch`
     fn name(&self) -> &'static str {
         "branch"

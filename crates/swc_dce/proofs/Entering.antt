@@ -1,5 +1,5 @@
 -- What is not entered, and what became of lists, as the walk asks for it.
-use Rattle.std.proofs.Common.{◌≡◌, Bool, true, false, not, ◌||◌, IsTrue, IsFalse, List, [], ◌∷◌, refl, ap, ◌∙◌}
+use Rattle.std.proofs.Common.{◌≡◌, Bool, true, false, not, ◌||◌, IsTrue, IsFalse, List, [], ◌∷◌, refl, sym, ap, ◌∙◌}
 use Rattle.std.proofs.lemmas.Bool.{true≢false}
 use Rattle.swc_ast.proofs.Equations.{stmt_tree-Block}
 use Rattle.swc_ast.specs.Modules.{item_tree}
@@ -22,21 +22,21 @@ use Rattle.swc_walk.specs.declared.rules.ListPlace.TheVariants as place
 use Rattle.dce_rules.specs.Shakes.{Shaker, is_shut, is_head_alone, shake_pass}
 use Rattle.dce_code.specs.Lists.{trees, ListShaken}
 
+not_false : (b : Bool) → IsFalse (not b) → IsTrue b
+not_false true h = refl
+not_false false h = absurd (true≢false h)
+
 -- the operand of `delete`
 
 one_of_four : (a c d : Bool) → ((a || (true || c)) || d) ≡ true
 one_of_four true c d = refl
 one_of_four false c d = refl
 
-pub delete_shut : (t : Tree) → is_delete (label_of t) ≡ true → is_shut t ≡ true
-delete_shut (node l ss cs) h =
-    ap (λ b. (begins_with_asm l cs || (b || is_default_function l)) || is_head_alone l cs) h ∙ one_of_four (begins_with_asm l cs) (is_default_function l) (is_head_alone l cs)
+pub delete_shut : (t : Tree) (b : Bool) → b ≡ is_delete (label_of t) → IsFalse (not b) → is_shut t ≡ true
+delete_shut (node l ss cs) b is h =
+    ap (λ d. (begins_with_asm l cs || (d || is_default_function l)) || is_head_alone l cs) (sym is ∙ not_false b h) ∙ one_of_four (begins_with_asm l cs) (is_default_function l) (is_head_alone l cs)
 
 -- lists that begin with the directive
-
-not_false : (b : Bool) → IsFalse (not b) → IsTrue b
-not_false true h = refl
-not_false false h = absurd (true≢false h)
 
 -- what a look at a list tells: where it says so, no node that has the list is entered
 abbrev pub ShutBy : {X : Type 0} → (X → ModuleItem) → List X → Bool → Type 0

@@ -1,5 +1,9 @@
 //! The rules of the pass at each node.
+ghost use Rattle.std.specs.Prelude.{◌≡◌, not, IsFalse};
 ghost use Rattle.swc_ast.specs.Modules.{module_decl_tree};
+ghost use Rattle.swc_ast.specs.Redex as redex;
+ghost use Rattle.swc_ast.specs.Views.{expr_tree};
+ghost use Rattle.swc_static.specs.Names.{label_of};
 ghost use Rattle.swc_walk.specs.Walks.{Became};
 ghost use Rattle.dce_rules.specs.Shakes.{shake_pass};
 ghost use Rattle.dce_code.specs.Knowledge.{shaker};
@@ -36,7 +40,10 @@ impl<'a> Rules for ShakeRules<'a> {
     ghost pass = { λ r. shake_pass (shaker r.known) };
 
     #[tactic(auto, using(crate::proofs::Entering::delete_shut))]
-    fn enters_expr(&self, e: &Expr) -> bool {
+    fn enters_expr(&self, e: &Expr) -> bool
+        ensures exactly { result ≡ not (redex.is_delete (label_of (expr_tree e.now))) }
+        ensures shut { IsFalse result → (shake_pass (shaker self.now.known)).skips (expr_tree e.now) }
+    {
         !is_delete(e)
     }
 

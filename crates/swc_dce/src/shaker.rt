@@ -1,5 +1,5 @@
 //! The pass.
-ghost use Rattle.std.specs.Prelude.{◌≡◌, not, false, map, string_bytes};
+ghost use Rattle.std.specs.Prelude.{◌≡◌, not, false, map, string_bytes, codes};
 ghost use Rattle.swc_ast.specs.Marks.{mark_number};
 ghost use Rattle.swc_utils.specs.Globals.{unresolved};
 ghost use Rattle.swc_dce.specs.Configured as configured;
@@ -72,6 +72,8 @@ impl Repeated for TreeShaker {
 }
 
 impl CompilerPass for TreeShaker {
+    ghost its_name = { codes "tree-shaker" };
+
     /// `tree-shaker`
     fn name(&self) -> &'static str {
         "tree-shaker"

@@ -1,5 +1,6 @@
--- Words of another length than a text are not that text.
-use Rattle.std.proofs.Common.{◌≡◌, ℕ, Bool, true, false, ◌==◌, List, length, bytes_eq, refl, sym, ap, ◌∙◌}
+-- Words of another length or with another first letter than a text are not that text.
+use Rattle.std.proofs.Common.{◌≡◌, ℕ, Bool, true, false, ◌==◌, List, ◌∷◌, length, bytes_eq, refl, sym, ap, ◌∙◌}
+use Rattle.std.specs.Prelude.{◌&&◌}
 use Rattle.std.proofs.lemmas.Bool.{false≢true, eq-eqb}
 use Rattle.std.proofs.lemmas.Slice.Eq.{bytes_eq-Decides}
 
@@ -9,3 +10,6 @@ unlike t u h = by_case (bytes_eq t u) refl
     by_case : (b : Bool) → bytes_eq t u ≡ b → b ≡ false
     by_case false e = refl
     by_case true e = absurd (false≢true (sym h ∙ eq-eqb (length u) (length t) (sym (ap length ((bytes_eq-Decides t u).0 e)))))
+
+pub other_start : (c d : ℕ) (cs ds : List ℕ) → (c == d) ≡ false → bytes_eq (c ∷ cs) (d ∷ ds) ≡ false
+other_start c d cs ds h = ap (λ b. b && bytes_eq cs ds) h

@@ -1,5 +1,5 @@
 //! Words: texts that may stand as names.
-ghost use Rattle.std.specs.Prelude.{◌≡◌, map};
+ghost use Rattle.std.specs.Prelude.{◌≡◌, map, false, IsFalse, bytes_eq};
 ghost use Rattle.swc_ast.specs.Operators.{is_among as is_among_texts};
 ghost use Rattle.swc_ast.specs.Valid.{is_letter as is_letter_code, is_part as is_part_code, all_parts as all_part_codes, is_word as is_word_text, is_identifier as is_identifier_text, reserved_words};
 
@@ -102,16 +102,28 @@ fn is_reserved(text: &str) -> bool
     is_among(text, &RESERVED)
 }
 
-#[tactic(auto, using(crate::proofs::Lengths::unlike))]
+#[tactic(auto)]
 fn is_among(text: &str, words: &[&str]) -> bool
     ensures { result ≡ is_among_texts text.now (map (λ w. w.now) words.now) }
 {
     let mut left = words;
     while let [word, rest @ ..] = left {
-        if word.len() == text.len() && text == *word {
+        if may_be(text, word) && text == *word {
             return true;
         }
         left = rest;
     }
     false
+}
+
+/// Whether two texts are as long and begin with the same byte, where they have one.
+#[inline(always)]
+#[tactic(auto, using(crate::proofs::Lengths::unlike, crate::proofs::Lengths::other_start))]
+fn may_be(text: &str, word: &str) -> bool
+    ensures { IsFalse result → bytes_eq text.now word.now ≡ false }
+{
+    match (text.as_bytes(), word.as_bytes()) {
+        ([t, ..], [w, ..]) => t == w && text.len() == word.len(),
+        _ => text.len() == word.len(),
+    }
 }

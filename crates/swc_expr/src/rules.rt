@@ -1,7 +1,12 @@
 //! The rules of the pass at each node.
-ghost use Rattle.std.specs.Prelude.{◌≡◌, IfOk, IsNone};
+ghost use Rattle.std.specs.Prelude.{◌≡◌, not, IfOk, IsNone};
+ghost use Rattle.swc_ast.specs.Expressions.{param_tree};
+ghost use Rattle.swc_ast.specs.Redex as redex;
 ghost use Rattle.swc_ast.specs.Views.{expr_tree};
+ghost use Rattle.swc_static.specs.Names.{label_of};
 ghost use Rattle.swc_utils.specs.Globals.{unresolved};
+ghost use Rattle.swc_walk.specs.Walks.{Stepped};
+ghost use Rattle.expr_places.specs.Dropped.{has_void_default};
 ghost use Rattle.expr_rules.specs.Replaced.{Replaced};
 ghost use Rattle.swc_expr.specs.Simplifies.{Rests, simplify_pass};
 
@@ -74,7 +79,9 @@ impl ExprRules {
 impl Rules for ExprRules {
     ghost pass = { λ r. simplify_pass (unresolved r.ctx) };
 
-    fn enters_expr(&self, e: &Expr) -> bool {
+    fn enters_expr(&self, e: &Expr) -> bool
+        ensures { result ≡ not (redex.is_delete (label_of (expr_tree e.now))) }
+    {
         !is_delete(e)
     }
 
@@ -92,7 +99,11 @@ impl Rules for ExprRules {
         }
     }
 
-    fn leave_param(&self, p: &mut Pat) -> Result<bool, AllocError> {
+    #[tactic(auto, using(crate::proofs::Shields::default_at))]
+    fn leave_param(&self, p: &mut Pat) -> Result<bool, AllocError>
+        ensures step { IfOk result (λ changed. Stepped (simplify_pass (unresolved self.now.ctx)) changed (param_tree expr_tree p.old) (param_tree expr_tree p.new)) }
+        ensures goes { IfOk result (λ changed. changed ≡ has_void_default (unresolved self.now.ctx) (param_tree expr_tree p.old)) }
+    {
         Ok(drop_default(self.alloc, &self.ctx, p))
     }
 

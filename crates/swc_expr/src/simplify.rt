@@ -1,5 +1,5 @@
 //! The pass.
-ghost use Rattle.std.specs.Prelude.{◌≡◌, false};
+ghost use Rattle.std.specs.Prelude.{◌≡◌, false, codes};
 ghost use Rattle.swc_ast.specs.declared.names.Mark.{Mark};
 ghost use Rattle.swc_ast.specs.Marks.{mark_number};
 ghost use Rattle.swc_utils.specs.Globals.{unresolved};
@@ -67,6 +67,8 @@ impl Repeated for SimplifyExpr {
 }
 
 impl CompilerPass for SimplifyExpr {
+    ghost its_name = { codes "simplify-expr" };
+
     /// `simplify-expr`
     fn name(&self) -> &'static str {
         "simplify-expr"

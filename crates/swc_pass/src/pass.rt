@@ -1,5 +1,5 @@
 //! What a pass is.
-ghost use Rattle.std.specs.Prelude.{◌≡◌, ℕ, Bool, true, false, IfOk, IfErr, OnErr};
+ghost use Rattle.std.specs.Prelude.{◌≡◌, ℕ, Bool, true, false, List, IfOk, IfErr, OnErr};
 ghost use Rattle.swc_ast.specs.Modules.{module_tree, script_tree};
 ghost use Rattle.swc_ast.specs.declared.errors.PassError.TheVariants.{OutOfMemory};
 ghost use Rattle.swc_pass.specs.Pass.{PassSpec, IsLawful, Keeps, TellsChange};
@@ -34,8 +34,12 @@ pub trait Repeated {
 
 /// A pass that has a name.
 pub trait CompilerPass {
+    /// The bytes of the pass's name.
+    ghost its_name: { List ℕ };
+
     /// The pass's name.
-    fn name(&self) -> &'static str;
+    fn name(&self) -> &'static str
+        ensures { result.now ≡ its_name };
 }
 
 /// A pass over modules and scripts. Its `spec` tells what it may answer, and its laws say what holds of each answer.

@@ -1,6 +1,6 @@
 -- Whether a tree is resolved, from its parts.
 use Rattle.std.proofs.Common.{◌≡◌, ℕ, ◌+◌, ◌≤◌, Bool, true, false, not, ◌&&◌, refl, sym, ap, ap₂, subst, ◌∙◌, arith}
-use Rattle.std.proofs.lemmas.Bool.{false≢true}
+use Rattle.std.proofs.lemmas.Bool.{false≢true, and_parts}
 use Rattle.std.specs.Bool.{MatchBool}
 use Rattle.std.specs.Prelude.{◌↔◌, IsTrue}
 use Rattle.swc_ast.specs.Tree.{Name, Label, Tree, Forest}
@@ -60,8 +60,7 @@ refused f = ((λ h. absurd (false≢true h)), (λ p. absurd (f p)))
 pub badly_bound : (b : Bool) (mark : ℕ) (t : Tree) → b ≡ false → MatchBool b (BindsWell mark t) (BindsWell mark t → ⊥) → IsTrue false ↔ IsResolved mark t
 badly_bound b mark t is h = let unbound : BindsWell mark t → ⊥ = subst (λ c. MatchBool c (BindsWell mark t) (BindsWell mark t → ⊥)) is h in refused (λ r. unbound (well_bound mark t r))
 
-pub unaimed : (b : Bool) (mark : ℕ) (t : Tree) → b ≡ false → b ≡ aimed no_targets t → IsTrue false ↔ IsResolved mark t
-unaimed b mark t is h = refused (λ r. false≢true (sym is ∙ h ∙ r.jumps_aimed))
-
-pub last_decides : (b c d : Bool) (mark : ℕ) (t : Tree) → c ≡ true → MatchBool c (BindsWell mark t) (BindsWell mark t → ⊥) → d ≡ true → d ≡ aimed no_targets t → b ≡ apart t → IsTrue b ↔ IsResolved mark t
-last_decides b c d mark t bound h jumps g e = let well : BindsWell mark t = subst (λ a. MatchBool a (BindsWell mark t) (BindsWell mark t → ⊥)) bound h in ((λ is. resolved mark t well (sym g ∙ jumps) (sym e ∙ is)), (λ r. e ∙ r.params_stand_apart))
+pub last_decides : (b c : Bool) (mark : ℕ) (t : Tree) → c ≡ true → MatchBool c (BindsWell mark t) (BindsWell mark t → ⊥) → b ≡ (aimed no_targets t && apart t) → IsTrue b ↔ IsResolved mark t
+last_decides b c mark t bound h e =
+    let well : BindsWell mark t = subst (λ a. MatchBool a (BindsWell mark t) (BindsWell mark t → ⊥)) bound h in
+    ((λ is. let both = and_parts (aimed no_targets t) (apart t) (sym e ∙ is) in resolved mark t well both.0 both.1), (λ r. e ∙ ap₂ (λ a d. a && d) r.jumps_aimed r.params_stand_apart))

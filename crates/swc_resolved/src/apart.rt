@@ -1,8 +1,8 @@
 //! Parameters beside a default.
 ghost use Rattle.std.specs.Prelude.{◌≡◌, IfOk};
-ghost use Rattle.swc_ast.specs.Resolved.{apart, none_declared as none_among, params_apart};
+ghost use Rattle.swc_ast.specs.Resolved.{none_declared as none_among, params_apart};
 ghost use Rattle.swc_visit.specs.Kinds.{kind_label};
-ghost use Rattle.swc_visit.specs.Nodes.{node_tree, children_forest};
+ghost use Rattle.swc_visit.specs.Nodes.{children_forest};
 ghost use Rattle.swc_resolved.specs.Scopes.{own_apart};
 ghost use Rattle.swc_resolved.specs.Names.{names as names_of};
 
@@ -10,30 +10,16 @@ use crate::declared::{Part, add_body, add_names};
 use crate::functions::{Half, half_of, has_default, is_function};
 use crate::names::{Name, TextSet};
 use std::alloc::{AllocError, Global};
-use swc_visit::{Children, Kind, Node};
+use swc_visit::{Children, Kind};
 
-/// Whether each function that has a default declares no text of a parameter in its body. Fails
-/// where memory is refused.
-#[tactic(auto, using(swc_visit::proofs::Caps::opened_smaller, swc_visit::proofs::Caps::child_smaller, swc_visit::proofs::Caps::rest_smaller, swc_visit::proofs::Caps::rest_falls, crate::proofs::Beside::refused_here, crate::proofs::Beside::children_decide))]
-pub(crate) fn is_apart(n: Node<'_>, alloc: Global) -> Result<bool, AllocError>
-    ensures { IfOk result (λ b. b ≡ apart (node_tree n.entry)) }
-{
-    let opened = n.open();
-    if !is_own_apart(opened.kind, opened.children, alloc)? {
-        return Ok(false);
-    }
-    let mut left = opened.children;
-    while let Some((child, rest)) = left.next() {
-        if !is_apart(child, alloc)? {
-            return Ok(false);
-        }
-        left = rest;
-    }
-    Ok(true)
-}
-
+/// Whether a node that is a function with a default declares no text of a parameter in its body.
+/// Fails where memory is refused.
 #[tactic(auto, using(crate::proofs::Beside::function_apart))]
-fn is_own_apart(kind: Kind<'_>, children: Children<'_>, alloc: Global) -> Result<bool, AllocError>
+pub(crate) fn is_own_apart(
+    kind: Kind<'_>,
+    children: Children<'_>,
+    alloc: Global,
+) -> Result<bool, AllocError>
     ensures { IfOk result (λ b. b ≡ own_apart (kind_label kind.entry) (children_forest children.entry)) }
 {
     if !is_function(kind) {

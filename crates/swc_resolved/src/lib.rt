@@ -11,6 +11,7 @@ mod jumps;
 mod names;
 mod resolved;
 mod scopes;
+mod standing;
 
 pub use core_trees::{is_core, is_script_core};
 pub use declared::{Part, add_body, add_names, add_own_names};

@@ -8,9 +8,9 @@ ghost use Rattle.swc_ast.specs.Resolved.{IsResolved};
 ghost use Rattle.swc_visit.specs.Nodes.{node_tree};
 ghost use Rattle.swc_resolved.specs.Scopes.{BindsWell};
 
-use crate::apart::is_apart;
-use crate::jumps::{Targets, is_aimed};
+use crate::jumps::Targets;
 use crate::names::Taken;
+use crate::standing::stands_well;
 use std::alloc::{AllocError, Global};
 use swc_ast::{Mark, Module, PassError, Script};
 use swc_visit::Node;
@@ -45,12 +45,8 @@ fn is_tree_resolved(n: Node<'_>, unresolved_mark: Mark, alloc: Global) -> Result
     if !is_bound {
         return Ok(false);
     }
-    let has_targets = is_aimed(n, Targets::none(), alloc)?;
-    if !has_targets {
-        return Ok(false);
-    }
-    let stands_apart = is_apart(n, alloc)?;
-    Ok(stands_apart)
+    let stands = stands_well(n, Targets::none(), alloc)?;
+    Ok(stands)
 }
 
 /// Whether no name is bound twice, no unresolved name is bound, and what is exported by name is

@@ -51,6 +51,7 @@ pub enum Children<'a> {
 
 impl<'a> Children<'a> {
     /// The first child and those behind it, if any child is left.
+    #[inline(always)]
     pub fn next(self) -> Option<(Node<'a>, Children<'a>)>
         ensures { children_forest self.entry ≡ next_forest result }
     {
@@ -85,6 +86,7 @@ impl<'a> Children<'a> {
     }
 }
 
+#[inline(always)]
 fn next_listed<'a>(list: NodeList<'a>, at: usize) -> Option<(Node<'a>, Children<'a>)>
     ensures { children_forest (Listed list.entry at) ≡ next_forest result }
 {

@@ -53,6 +53,7 @@ pub(crate) fn part_of<'a>(e: &'a Expr) -> Part<'a>
 }
 
 #[tactic(auto, using(swc_ast::proofs::Equations::forms), unfolding(crate::specs::Nodes::children_forest))]
+#[inline(always)]
 pub(crate) fn open_expr<'a>(e: &'a Expr) -> Opened<'a>
     ensures { Opens (expr_tree e.now) result }
 {

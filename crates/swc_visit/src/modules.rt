@@ -18,6 +18,7 @@ use swc_ast::{ExportNamedSpecifier, ImportSpecifier, ModuleDecl, ModuleItem};
 impl<'a> Node<'a> {
     /// What the node is, and its children.
     #[tactic(auto, using(crate::proofs::Cases::case_body), unfolding(crate::specs::Nodes::children_forest))]
+    #[inline(always)]
     pub fn open(self) -> Opened<'a>
         ensures { Opens (node_tree self.entry) result }
     {
@@ -46,6 +47,7 @@ impl<'a> Node<'a> {
 }
 
 /// What the node at a place of a list is, if one stands there.
+#[inline(always)]
 fn open_at<'a>(list: NodeList<'a>, at: usize) -> Option<Opened<'a>>
     ensures there { IfSome result (λ o. Opens (node_at list.entry at) o) }
     ensures absent { IsNone result → node_at list.entry at ≡ absent }

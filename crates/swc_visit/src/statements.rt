@@ -17,6 +17,7 @@ use swc_ast::{
 
 /// What a statement is, and its children.
 #[tactic(auto, using(swc_ast::proofs::Equations::forms), unfolding(crate::specs::Nodes::children_forest))]
+#[inline(always)]
 pub fn open_stmt<'a>(s: &'a Stmt) -> Opened<'a>
     ensures { Opens (stmt_tree s.now) result }
 {

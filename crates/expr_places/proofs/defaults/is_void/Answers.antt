@@ -1,4 +1,4 @@
-use Rattle.std.proofs.Common.{rules, ap, ◌∙◌}
+use Rattle.std.proofs.Common.{◌∙◌}
 use Rattle.expr_places.proofs.Views.{other_void, void_at, void_not_at}
 use Rattle.expr_places.proofs.defaults.is_void.Goals as goal
 

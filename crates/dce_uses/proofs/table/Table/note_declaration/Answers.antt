@@ -1,7 +1,7 @@
 use Rattle.std.proofs.Common.{◌≡◌, [], ap, ◌∙◌}
 use Rattle.swc_visit.specs.Kinds.{kind_label}
 use Rattle.swc_visit.specs.Nodes.{node_tree, children_forest, next_forest}
-use Rattle.dce_uses.specs.declared.tally.Fact.TheVariants as fact
+use Rattle.dce_uses.specs.Noted.{is_hiding}
 use Rattle.dce_uses.specs.Exports.{first_names}
 use Rattle.dce_uses.proofs.Adding.{nothing, none_named}
 use Rattle.dce_uses.proofs.Counting.{alone}
@@ -16,4 +16,4 @@ returns-in_default-kind c =
     let none : xs ≡ [] =
     first_as (node_tree c.in-Some.declaration) (children_forest c.in-Some.field-0-1) (children_forest c.args.children) cs (kind_label k) (c.next.ensures ∙ ap next_forest c.in-Some.is) c.open-opened.ensures.0 c.open-opened.ensures.1
     ∙ no_declaration k cs c.in_default-kind.not-VarDecl c.in_default-kind.not-FnDecl in
-    nothing c.args.self.now (alone fact.Hidden xs) (λ f x. none_named fact.Hidden f x xs none)
+    nothing c.args.self.now (alone is_hiding xs) (λ f x. none_named is_hiding f x xs none)

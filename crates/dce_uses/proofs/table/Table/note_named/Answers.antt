@@ -1,13 +1,19 @@
-use Rattle.std.proofs.Common.{ap}
-use Rattle.swc_ast.specs.Scope.{has_name}
+use Rattle.std.proofs.Common.{[], ◌∷◌, sym, ap, ◌∙◌}
+use Rattle.swc_ast.specs.Parts.{ident_name}
+use Rattle.swc_ast.specs.Reach.{named_by}
 use Rattle.swc_visit.specs.Kinds.{kind_label}
 use Rattle.swc_names.specs.Ids.{optional}
-use Rattle.dce_uses.proofs.Counting.{named_so}
+use Rattle.dce_uses.specs.Noted.{naming}
+use Rattle.dce_uses.proofs.Counting.{one_said, none_said}
 use Rattle.dce_uses.proofs.table.Table.note_named.Goals as goal
 
-pub returns : goal.returns
-returns c =
-    named_so c.args.self.now c.add.new.self c.add-2.new.self c.add-3.new.self c.args.place (kind_label c.args.kind)
-    (optional c.read_name.result) (optional c.written_name.result) (optional c.named_abroad.result)
-    (λ x. ap (has_name x) c.read_name.ensures) (λ x. ap (has_name x) c.written_name.ensures) (λ x. ap (has_name x) c.named_abroad.ensures)
-    c.add.ensures c.add-2.ensures c.add-3.ensures
+pub returns-in-Some : goal.returns-in-Some
+returns-in-Some c =
+    let l = kind_label c.args.kind in
+    one_said c.args.self.now c.add_all.new.self c.naming.result (λ f. naming f c.args.place l) (ident_name c.in-Some.name.now ∷ []) (named_by l)
+    c.naming.ensures (sym (ap optional c.in-Some.is) ∙ c.named.ensures) c.add_all.ensures
+
+pub returns-in_default : goal.returns-in_default
+returns-in_default c =
+    let l = kind_label c.args.kind in
+    none_said c.args.self.now (λ f. naming f c.args.place l) (named_by l) (sym (ap optional c.in_default.is) ∙ c.named.ensures)

@@ -2,9 +2,8 @@ use Rattle.std.proofs.Common.{sym, ap, subst, ◌∙◌, [], ◌∷◌}
 use Rattle.swc_ast.specs.Modules.{item_tree, module_tree}
 use Rattle.swc_ast.specs.Parts.{list_trees}
 use Rattle.swc_names.specs.Names.{mentioned, distinct}
-use Rattle.dce_uses.specs.declared.tally.Fact.TheVariants as fact
 use Rattle.dce_uses.specs.declared.uses.Uses.{Uses}
-use Rattle.dce_uses.specs.Noted.{noted}
+use Rattle.dce_uses.specs.Noted.{is_hiding, noted}
 use Rattle.dce_uses.specs.Exports.{exported_names, any_nameless}
 use Rattle.dce_uses.specs.Tables.{Notes}
 use Rattle.dce_uses.proofs.Counting.{alone}
@@ -19,5 +18,5 @@ returns-clause-tells c =
     (c.in_ok-names.ensures.names ∙ ap (λ xs. distinct (mentioned (list_trees item_tree xs))) c.deref.ensures.value)
     c.in_ok-table.ensures
     (subst (λ p. Notes c.in_ok-table.table c.count.new.self (λ f x. noted f x p t)) c.top.ensures c.count.ensures)
-    (subst (λ cs. Notes c.count.new.self c.note_exports.new.self (alone fact.Hidden (exported_names cs))) (sym c.open.ensures.1) c.note_exports.ensures)
+    (subst (λ cs. Notes c.count.new.self c.note_exports.new.self (alone is_hiding (exported_names cs))) (sym c.open.ensures.1) c.note_exports.ensures)
     (c.any_nameless.ensures ∙ ap any_nameless (sym c.open.ensures.1))
