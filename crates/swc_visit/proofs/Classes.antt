@@ -1,12 +1,12 @@
 -- What the class of a tree's label says of the tree.
 use Rattle.std.proofs.Common.{◌≡◌, Bool, true, false, refl}
 use Rattle.swc_ast.specs.Tree as tree
-use Rattle.swc_ast.specs.Tree.{Tree, node, Forest, ε, ◌⊳◌}
-use Rattle.swc_ast.specs.Weight.{is_stopper, is_stopper_label, stays_behind, stays_label, is_truth_or_absent, test_weight, list_weight}
+use Rattle.swc_ast.specs.Tree.{Tree, node}
+use Rattle.swc_ast.specs.Weight.{is_stopper, is_stopper_label, stays_behind, stays_label, is_truth_or_absent}
 use Rattle.swc_ast.specs.Valid.{is_absent, is_listed}
 use Rattle.swc_ast.specs.declared.VarDeclKind.TheVariants.{Var, Let, Const}
 use Rattle.swc_visit.specs.Nodes.{label_of}
-use Rattle.swc_visit.specs.Classes.{label_class, class_test_weight, class_list_weight}
+use Rattle.swc_visit.specs.Classes.{label_class}
 use Rattle.swc_visit.specs.declared.class.Class.{Class}
 use Rattle.swc_visit.specs.declared.class.Class.TheVariants as class
 
@@ -47,20 +47,6 @@ truth_by (node (tree.VarDecl Var) ss cs) = refl
 truth_by (node (tree.VarDecl Let) ss cs) = refl
 truth_by (node (tree.VarDecl Const) ss cs) = refl
 truth_by (node l ss cs) = refl
-
-pub test_by : (l : tree.Label) (cs : Forest) → test_weight l cs ≡ class_test_weight (label_class l) cs
-test_by tree.While cs = refl
-test_by tree.For cs = refl
-test_by (tree.VarDecl Var) cs = refl
-test_by (tree.VarDecl Let) cs = refl
-test_by (tree.VarDecl Const) cs = refl
-test_by l cs = refl
-
-pub list_by : (l : tree.Label) (cs : Forest) → list_weight l cs ≡ class_list_weight (label_class l) cs
-list_by (tree.VarDecl Var) cs = refl
-list_by (tree.VarDecl Let) cs = refl
-list_by (tree.VarDecl Const) cs = refl
-list_by l cs = refl
 
 abbrev pub class_is_absent : Class → Bool
 class_is_absent class.Absent = true

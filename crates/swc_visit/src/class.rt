@@ -118,7 +118,7 @@ impl<'a> Node<'a> {
 
     /// Whether control never passes the statement.
     #[tactic(auto, using(crate::proofs::Classes::stops_by))]
-    pub(crate) fn is_stopper(self) -> bool
+    pub fn is_stopper(self) -> bool
         ensures { result ≡ tree_stops (node_tree self.entry) }
     {
         match self.class() {
@@ -137,7 +137,7 @@ impl<'a> Node<'a> {
 
     /// Whether the node counts where no control reaches it: a function or a module declaration.
     #[tactic(auto, using(crate::proofs::Classes::stays_by))]
-    pub(crate) fn stays_behind(self) -> bool
+    pub fn stays_behind(self) -> bool
         ensures { result ≡ tree_stays (node_tree self.entry) }
     {
         match self.class() {
@@ -156,7 +156,7 @@ impl<'a> Node<'a> {
 
     /// Whether the node is a truth literal or left out.
     #[tactic(auto, using(crate::proofs::Classes::truth_by))]
-    pub(crate) fn is_truth_or_absent(self) -> bool
+    pub fn is_truth_or_absent(self) -> bool
         ensures { result ≡ tree_is_truth (node_tree self.entry) }
     {
         match self.class() {

@@ -10,7 +10,6 @@ mod modules;
 mod node;
 mod opened;
 mod statements;
-mod weights;
 
 pub use children::Children;
 pub use class::Class;
@@ -20,4 +19,3 @@ pub use modules::open_module_decl;
 pub use node::Node;
 pub use opened::Opened;
 pub use statements::open_stmt;
-pub use weights::{weight, weight_of_script};

@@ -5,7 +5,7 @@ use std::fmt::Write;
 use swc_ast::{Id, Mark};
 use swc_names::{Names, collect_decls, extract_var_ids};
 use swc_text::{read_module, read_script};
-use swc_visit::{weight, weight_of_script};
+use swc_weight::{weight, weight_of_script};
 
 /// A text's names, each with its context, in the order of their numbers and with `*` behind those that it declares; behind them,
 /// for a script, the names that `var` declares.

@@ -2,7 +2,7 @@ use Rattle.std.proofs.Common.{◌≡◌}
 use Rattle.swc_ast.specs.Weight.{unreached}
 use Rattle.swc_visit.specs.Nodes.{children_forest}
 use Rattle.swc_visit.proofs.Caps.{forest_size}
-use Rattle.swc_visit.proofs.weights.unreached.Given as goal
+use Rattle.swc_weight.proofs.weights.unreached.Given as goal
 
 abbrev pub invariant-loop-child : goal.invariant-loop-child
 invariant-loop-child l = unreached (children_forest l.left) ≡ unreached (children_forest l.children)

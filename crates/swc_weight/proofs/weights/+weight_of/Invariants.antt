@@ -2,7 +2,7 @@ use Rattle.std.proofs.Common.{◌≡◌, ◌+◌, ◌-◌, ◌^◌, ◌<◌, ◌
 use Rattle.swc_ast.specs.Weight.{weight, weight_all}
 use Rattle.swc_visit.specs.Nodes.{node_tree, children_forest}
 use Rattle.swc_visit.proofs.Caps.{tree_size, forest_size}
-use Rattle.swc_visit.proofs.weights.+weight_of.Given as goal
+use Rattle.swc_weight.proofs.weights.+weight_of.Given as goal
 
 abbrev pub decreases-weight_of : goal.decreases-weight_of
 decreases-weight_of l = tree_size (node_tree l.n)
