@@ -1,8 +1,10 @@
 //! The program `shake`: reads a module from standard input, runs a pass on it and prints the answer.
 #![tactic(auto)]
 
-ghost use Rattle.std.specs.Prelude.{◌≡◌, ◌≢◌, ◌≤◌, ◌↔◌, IsNone, IfOk, IfErr, map, string_bytes};
-ghost use Rattle.shake.specs.CommandLine.{command_line};
+ghost use Rattle.std.specs.Prelude.{◌≡◌, ◌≢◌, ◌≤◌, ◌↔◌, IsNone, IfOk, IfErr, IfSome, map, string_bytes};
+ghost use Rattle.shake.specs.Answered.{Answered};
+ghost use Rattle.shake.specs.CommandLine.{command_line, retained_in};
+ghost use Rattle.shake.specs.Status.{status_of};
 ghost use Rattle.shake.specs.declared.fault.Fault.TheVariants.{Arguments, Output};
 
 mod fault;
@@ -39,14 +41,21 @@ pub fn run<R: Read, W: Write, E: Write>(
     ensures unread { result ≡ 2 → reader.new ≡ reader.old }
     ensures unwritten { result ≡ 2 → writer.new ≡ writer.old }
     ensures silent { result ≡ 0 → errors.new ≡ errors.old }
+    // A module was read, and what the pass that is named makes of it, with its options, was printed.
+    ensures answered { result ≡ 0 → IfSome (command_line (map string_bytes args.now)) (λ o. Answered o (retained_in (map string_bytes args.now))) }
 {
     match work(alloc, args, reader, writer) {
         Ok(()) => 0,
-        Err(fault) => {
-            let _ = writeln!(errors, "shake: {fault}");
-            fault.status()
-        }
+        Err(fault) => told(fault, errors),
     }
+}
+
+// Tells a fault, in one line. Gives the exit status.
+fn told<E: Write>(fault: Fault, errors: &mut E) -> u8
+    ensures { result ≡ status_of fault }
+{
+    let _ = writeln!(errors, "shake: {fault}");
+    fault.status()
 }
 
 fn work<R: Read, W: Write>(
@@ -59,6 +68,7 @@ fn work<R: Read, W: Write>(
     ensures arguments { IfErr result (λ fault. (fault ≡ Arguments) ↔ IsNone (command_line (map string_bytes args.now))) }
     ensures unread { IfErr result (λ fault. fault ≡ Arguments → reader.new ≡ reader.old) }
     ensures unwritten { IfErr result (λ fault. fault ≢ Output → writer.new ≡ writer.old) }
+    ensures answered { IfOk result (λ _. IfSome (command_line (map string_bytes args.now)) (λ o. Answered o (retained_in (map string_bytes args.now)))) }
 {
     let options = Options::parse(args).ok_or(Fault::Arguments)?;
     let retained = retained(alloc, args).map_err(|_| Fault::OutOfMemory)?;
@@ -77,7 +87,8 @@ fn answer<R: Read>(
     retained: Vec<String>,
     reader: &mut R,
 ) -> Result<String, Fault>
-    ensures { IfErr result (λ fault. fault ≢ Arguments × fault ≢ Output) }
+    ensures answered { IfOk result (λ _. Answered options (map string_bytes retained.items)) }
+    ensures faults { IfErr result (λ fault. fault ≢ Arguments × fault ≢ Output) }
 {
     let text = input::read_text(alloc, reader)?;
     let mark = Mark::new(1).unwrap();
@@ -88,29 +99,24 @@ fn answer<R: Read>(
 
 fn main(rt: HostRuntime) -> ExitCode {
     let (mut reader, mut writer, mut errors) = (rt.stdin(), rt.stdout(), rt.stderr());
-    match arguments(&rt) {
-        Ok(args) => ExitCode::from(run(
-            rt.alloc(),
-            args.as_slice(),
-            &mut reader,
-            &mut writer,
-            &mut errors,
-        )),
-        Err(fault) => {
-            let _ = writeln!(errors, "shake: {fault}");
-            ExitCode::from(fault.status())
-        }
-    }
-}
-
-// The words behind the program's name. A word that isn't UTF-8 isn't understood.
-fn arguments(rt: &HostRuntime) -> Result<Vec<String>, Fault> {
-    match env::args(rt) {
+    // The words behind the program's name. A word that isn't UTF-8 isn't understood.
+    let args: Result<Vec<String>, Fault> = match env::args(&rt) {
         Ok(words) => words
             .skip(1)
             .collect(rt.alloc())
             .map_err(|_| Fault::OutOfMemory),
         Err(error) if error.kind() == ErrorKind::OutOfMemory => Err(Fault::OutOfMemory),
         Err(_) => Err(Fault::Arguments),
-    }
+    };
+    let status = match args {
+        Ok(args) => run(
+            rt.alloc(),
+            args.as_slice(),
+            &mut reader,
+            &mut writer,
+            &mut errors,
+        ),
+        Err(fault) => told(fault, &mut errors),
+    };
+    ExitCode::from(status)
 }

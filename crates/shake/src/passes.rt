@@ -1,4 +1,14 @@
 //! The passes that can be run.
+ghost use Rattle.std.specs.Prelude.{◌≡◌, true, None, map, string_bytes, IfOk, IfErr};
+ghost use Rattle.swc_ast.specs.Core.{IsCore};
+ghost use Rattle.swc_ast.specs.Marks.{mark_number};
+ghost use Rattle.swc_ast.specs.Modules.{module_tree};
+ghost use Rattle.swc_ast.specs.Resolved.{IsResolved};
+ghost use Rattle.swc_ast.specs.Run.{Same};
+ghost use Rattle.swc_ast.specs.Valid.{valid};
+ghost use Rattle.swc_ast.specs.declared.errors.PassError.TheVariants.{OutOfMemory};
+ghost use Rattle.shake.specs.Answered.{pass_by};
+
 use crate::options::{Options, PassName};
 use std::alloc::Global;
 use swc_ast::{Mark, Module, PassError};
@@ -9,7 +19,12 @@ use swc_optimization::simplifier;
 use swc_pass::Pass;
 
 /// What the tree shaker is told.
-fn shaking(options: Options, top_retain: Vec<String>) -> swc_dce::Config {
+fn shaking(options: Options, top_retain: Vec<String>) -> swc_dce::Config
+    ensures module_mark { result.module_mark ≡ None }
+    ensures top_level { result.top_level ≡ options.top_level }
+    ensures top_retain { result.top_retain ≡ top_retain }
+    ensures imports { result.preserve_imports_with_side_effects ≡ options.preserve_imports_with_side_effects }
+{
     swc_dce::Config {
         module_mark: None,
         top_level: options.top_level,
@@ -26,7 +41,12 @@ pub fn run_pass(
     retained: Vec<String>,
     mark: Mark,
     module: Module,
-) -> Result<Module, PassError> {
+) -> Result<Module, PassError>
+    ensures answers { IfOk result (λ r. (pass_by mark options (map string_bytes retained.items)).answers (module_tree «module») (module_tree r)) }
+    // Of a module that is resolved and in the core, the answer does the same in each world.
+    ensures same { IfOk result (λ r. IsResolved (mark_number mark) (module_tree «module») → IsCore (module_tree «module») → Same (mark_number mark) (pass_by mark options (map string_bytes retained.items)).loads (module_tree «module») (module_tree r)) }
+    ensures memory { IfErr result (λ e. e ≡ OutOfMemory) }
+{
     match options.pass {
         PassName::Expr => {
             let mut pass = expr_simplifier(mark, swc_expr::Config {});

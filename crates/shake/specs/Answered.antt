@@ -1,0 +1,55 @@
+-- What the program may answer.
+use Rattle.std.specs.Prelude.{ℕ, ◌≡◌, Bool, true, List, []}
+use Rattle.swc_ast.specs.Core.{IsCore}
+use Rattle.swc_ast.specs.Marks.{mark_number}
+use Rattle.swc_ast.specs.Resolved.{IsResolved}
+use Rattle.swc_ast.specs.Run.{Same}
+use Rattle.swc_ast.specs.Tree.{Text, Tree}
+use Rattle.swc_ast.specs.Valid.{valid}
+use Rattle.swc_ast.specs.declared.names.Mark.{Mark}
+use Rattle.swc_captures.specs.Captured.{captured}
+use Rattle.swc_pass.specs.Pass.{PassSpec}
+use Rattle.swc_pass.specs.Repeat.{Rounded}
+use Rattle.swc_expr.specs.Simplified.{simplify_spec}
+use Rattle.swc_branch.specs.Removed.{remove_spec}
+use Rattle.swc_dce.specs.Shaken.{Told, shake_spec}
+use Rattle.swc_optimization.specs.Simplifier.{round_spec}
+use Rattle.shake.specs.declared.options.Options.{Options}
+use Rattle.shake.specs.declared.options.PassName.{PassName}
+use Rattle.shake.specs.declared.options.PassName.TheVariants.{Expr, Branch, Dce, Simplify}
+
+-- what the options tell the tree shaker of modules whose unresolved names bear this mark; names of these texts stay
+abbrev pub told_by : Mark → Options → List Text → Told
+told_by mark o retained = record { mark = mark; top_level = o.top_level; retained = retained; keeps_imports = o.preserve_imports_with_side_effects }
+
+-- rounds of a pass, at most so many
+abbrev pub in_rounds : PassSpec → ℕ → PassSpec
+in_rounds p most = record { mark = p.mark; loads = p.loads; lowers = p.lowers; answers = λ t u. (n : ℕ) × (reached : Bool) × Rounded p most t n reached u }
+
+-- the pass of this name, told so, in at most so many rounds where it has rounds
+abbrev pub pass_of : PassName → Told → ℕ → PassSpec
+pass_of Expr told most = simplify_spec told.mark
+pass_of Branch told most = remove_spec told.mark
+pass_of Dce told most = shake_spec told
+pass_of Simplify told most = in_rounds (round_spec told) most
+
+-- the pass that these options name
+abbrev pub pass_by : Mark → Options → List Text → PassSpec
+pass_by mark o retained = pass_of o.pass (told_by mark o retained) o.max_rounds
+
+-- Some module was read, and what the pass makes of it was printed.
+pub record Answered (o : Options) (retained : List Text) : Type 0 where
+  -- the mark of its unresolved names
+  pub mark : Mark
+  pub is_first : mark_number mark ≡ 1
+  -- the module read is valid and resolved
+  pub read : Tree
+  pub is_valid : valid read ≡ true
+  pub is_resolved : IsResolved (mark_number mark) read
+  -- the one printed is what the pass answers, and does the same in each world if the one read is in the core
+  pub made : Tree
+  pub answers : (pass_by mark o retained).answers read made
+  pub same : IsCore read → Same (mark_number mark) (pass_by mark o retained).loads read made
+  -- it is valid, and no name in it is captured when texts alone tell names apart
+  pub made_valid : valid made ≡ true
+  pub uncaptured : captured [] made ≡ []
