@@ -8,7 +8,7 @@ use Rattle.swc_branch.specs.Removed.{remove_spec}
 use Rattle.swc_dce.specs.Configured.{told}
 use Rattle.swc_dce.specs.Shaken.{Told, shake_spec}
 use Rattle.swc_dce.specs.declared.config.Config.{Config}
-use Rattle.shake.specs.Answered.{told_by, pass_of, pass_by}
+use Rattle.shake.specs.Passes.{told_by, pass_of, pass_by}
 use Rattle.shake.specs.declared.options.Options.{Options}
 use Rattle.shake.specs.declared.options.PassName.{PassName}
 use Rattle.shake.specs.declared.options.PassName.TheVariants.{Expr, Branch, Dce}

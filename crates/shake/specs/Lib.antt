@@ -1,3 +1,3 @@
-pub mod Answered
 pub mod CommandLine
+pub mod Passes
 pub mod Status

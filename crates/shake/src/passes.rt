@@ -5,9 +5,8 @@ ghost use Rattle.swc_ast.specs.Marks.{mark_number};
 ghost use Rattle.swc_ast.specs.Modules.{module_tree};
 ghost use Rattle.swc_ast.specs.Resolved.{IsResolved};
 ghost use Rattle.swc_ast.specs.Run.{Same};
-ghost use Rattle.swc_ast.specs.Valid.{valid};
 ghost use Rattle.swc_ast.specs.declared.errors.PassError.TheVariants.{OutOfMemory};
-ghost use Rattle.shake.specs.Answered.{pass_by};
+ghost use Rattle.shake.specs.Passes.{pass_by};
 
 use crate::options::{Options, PassName};
 use std::alloc::Global;

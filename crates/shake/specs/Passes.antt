@@ -1,13 +1,7 @@
--- What the program may answer.
-use Rattle.std.specs.Prelude.{ℕ, ◌≡◌, Bool, true, List, []}
-use Rattle.swc_ast.specs.Core.{IsCore}
-use Rattle.swc_ast.specs.Marks.{mark_number}
-use Rattle.swc_ast.specs.Resolved.{IsResolved}
-use Rattle.swc_ast.specs.Run.{Same}
-use Rattle.swc_ast.specs.Tree.{Text, Tree}
-use Rattle.swc_ast.specs.Valid.{valid}
+-- What the pass may answer that a command line asks for.
+use Rattle.std.specs.Prelude.{ℕ, Bool, List}
+use Rattle.swc_ast.specs.Tree.{Text}
 use Rattle.swc_ast.specs.declared.names.Mark.{Mark}
-use Rattle.swc_captures.specs.Captured.{captured}
 use Rattle.swc_pass.specs.Pass.{PassSpec}
 use Rattle.swc_pass.specs.Repeat.{Rounded}
 use Rattle.swc_expr.specs.Simplified.{simplify_spec}
@@ -36,20 +30,3 @@ pass_of Simplify told most = in_rounds (round_spec told) most
 -- the pass that these options name
 abbrev pub pass_by : Mark → Options → List Text → PassSpec
 pass_by mark o retained = pass_of o.pass (told_by mark o retained) o.max_rounds
-
--- Some module was read, and what the pass makes of it was printed.
-pub record Answered (o : Options) (retained : List Text) : Type 0 where
-  -- the mark of its unresolved names
-  pub mark : Mark
-  pub is_first : mark_number mark ≡ 1
-  -- the module read is valid and resolved
-  pub read : Tree
-  pub is_valid : valid read ≡ true
-  pub is_resolved : IsResolved (mark_number mark) read
-  -- the one printed is what the pass answers, and does the same in each world if the one read is in the core
-  pub made : Tree
-  pub answers : (pass_by mark o retained).answers read made
-  pub same : IsCore read → Same (mark_number mark) (pass_by mark o retained).loads read made
-  -- it is valid, and no name in it is captured when texts alone tell names apart
-  pub made_valid : valid made ≡ true
-  pub uncaptured : captured [] made ≡ []
