@@ -4,7 +4,8 @@
 ghost use Rattle.std.specs.Prelude.{◌≡◌, ◌≢◌, ◌≤◌, ◌↔◌, IsNone, IfOk, IfErr, map, string_bytes};
 ghost use Rattle.shake.specs.CommandLine.{command_line};
 ghost use Rattle.shake.specs.Status.{status_of};
-ghost use Rattle.shake.specs.declared.fault.Fault.TheVariants.{Arguments, Output};
+ghost use Rattle.shake.specs.declared.fault.Fault.TheVariants.{Arguments, Print, Output};
+ghost use Rattle.swc_text.specs.declared.error.PrintError.TheVariants.{Invalid};
 
 mod fault;
 mod input;
@@ -65,6 +66,7 @@ fn work<R: Read, W: Write>(
     ensures arguments { IfErr result (λ fault. (fault ≡ Arguments) ↔ IsNone (command_line (map string_bytes args.now))) }
     ensures unread { IfErr result (λ fault. fault ≡ Arguments → reader.new ≡ reader.old) }
     ensures unwritten { IfErr result (λ fault. fault ≢ Output → writer.new ≡ writer.old) }
+    ensures printable { IfErr result (λ fault. fault ≢ Print Invalid) }
 {
     let options = Options::parse(args).ok_or(Fault::Arguments)?;
     let retained = retained(alloc, args).map_err(|_| Fault::OutOfMemory)?;

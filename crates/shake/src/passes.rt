@@ -5,6 +5,7 @@ ghost use Rattle.swc_ast.specs.Marks.{mark_number};
 ghost use Rattle.swc_ast.specs.Modules.{module_tree};
 ghost use Rattle.swc_ast.specs.Resolved.{IsResolved};
 ghost use Rattle.swc_ast.specs.Run.{Same};
+ghost use Rattle.swc_ast.specs.Valid.{valid};
 ghost use Rattle.swc_ast.specs.declared.errors.PassError.TheVariants.{OutOfMemory};
 ghost use Rattle.shake.specs.Passes.{pass_by};
 
@@ -44,6 +45,9 @@ pub fn run_pass(
     ensures answers { IfOk result (λ r. (pass_by mark options (map string_bytes retained.items)).answers (module_tree «module») (module_tree r)) }
     // Of a module that is resolved and in the core, the answer does the same in each world.
     ensures same { IfOk result (λ r. IsResolved (mark_number mark) (module_tree «module») → IsCore (module_tree «module») → Same (mark_number mark) (pass_by mark options (map string_bytes retained.items)).loads (module_tree «module») (module_tree r)) }
+    ensures resolved { IfOk result (λ r. IsResolved (mark_number mark) (module_tree «module») → IsResolved (mark_number mark) (module_tree r)) }
+    ensures valid { IfOk result (λ r. IsResolved (mark_number mark) (module_tree «module») → valid (module_tree «module») ≡ true → valid (module_tree r) ≡ true) }
+    ensures core { IfOk result (λ r. IsResolved (mark_number mark) (module_tree «module») → IsCore (module_tree «module») → IsCore (module_tree r)) }
     ensures memory { IfErr result (λ e. e ≡ OutOfMemory) }
 {
     match options.pass {
