@@ -8,8 +8,9 @@ use crate::words::{is_identifier, is_word};
 use swc_ast::{Ident, IdentName};
 use swc_visit::Kind;
 
-/// Whether the names that a node holds are identifiers, or words where any word may stand.
-pub(crate) fn has_good_names(kind: Kind<'_>) -> bool
+/// Whether the names that a node holds are identifiers (ECMA-262, 12.7), or words where any word may stand: what validity asks
+/// of the node's names.
+pub fn has_good_names(kind: Kind<'_>) -> bool
     ensures { result ≡ good_names (kind_label kind.entry) }
 {
     match kind {

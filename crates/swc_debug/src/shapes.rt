@@ -8,8 +8,9 @@ ghost use Rattle.swc_visit.specs.Kinds.{kind_label};
 use swc_ast::TplElement;
 use swc_visit::{Children, Kind};
 
-/// Whether a node has the children that its kind asks for.
-pub(crate) fn has_good_shape(kind: Kind<'_>, children: Children<'_>) -> bool
+/// Whether a node has the children that its kind asks for: what validity asks of the node beside its names and beside the
+/// validity of the children.
+pub fn has_good_shape(kind: Kind<'_>, children: Children<'_>) -> bool
     ensures { result ≡ good_shape (kind_label kind.entry) (children_forest children.entry) }
 {
     match kind {
