@@ -1,5 +1,6 @@
 -- What jumps in the children of a node may go to that is no function and no target.
-use Rattle.std.proofs.Common.{◌≡◌, [], refl}
+use Rattle.std.proofs.Common.{◌≡◌, ℕ, ◌<◌, List, [], ◌∷◌, length, map, refl, ap, sym, arith}
+use Rattle.swc_ast.specs.Tree.{Text}
 use Rattle.swc_ast.specs.Resolved.{Targets, below}
 use Rattle.swc_visit.specs.Kinds.{kind_label}
 use Rattle.swc_visit.specs.declared.kind.Kind.{Kind}
@@ -20,3 +21,12 @@ plain_below kind.Method g a b c d e f h i j l = absurd (i refl)
 plain_below (kind.FnDecl n) g a b c d e f h i j l = absurd (j n refl)
 plain_below (kind.ExportDefaultFn n) g a b c d e f h i j l = absurd (l n refl)
 plain_below k g a b c d e f h i j l = refl
+
+-- where a statement has no labels of its own
+
+pub no_texts : {A : Type 0} (f : A → Text) (ts : List A) → length ts < 1 → map f ts ≡ []
+no_texts f [] short = refl
+no_texts f (t ∷ ts) short = absurd (omega (arith, short))
+
+pub plain_already : (g : Targets) → g.own ≡ [] → g ≡ plain g
+plain_already g none = ap (λ (own : List Text). record { labels = g.labels; loops = g.loops; can_break = g.can_break; can_continue = g.can_continue; own = own }) none

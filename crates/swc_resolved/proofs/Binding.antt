@@ -13,7 +13,7 @@ use Rattle.swc_static.proofs.Names.{same_name_path, same_name_itself, has_name_a
 use Rattle.swc_visit.specs.Nodes.{label_of, children_of}
 use Rattle.swc_resolved.specs.declared.names.Name.{Name as Key}
 use Rattle.swc_resolved.specs.Names.{names}
-use Rattle.swc_resolved.specs.Scopes.{own_names, Binds}
+use Rattle.swc_resolved.specs.Scopes.{own_names, opens_scope, Binds}
 
 -- a scope of which some name is taken
 
@@ -139,6 +139,24 @@ no_function x l cs is = none_behind (one_if (has_name x (own_names l cs))) (if_f
 
 pub with_function : (x : Name) (l : Label) (cs : Forest) → is_function l ≡ true → own_scopes x l cs ≡ one_if (has_name x (own_names l cs)) + function_scopes x cs
 with_function x l cs is = own_scopes_are x l cs ∙ ap (λ b. one_if (has_name x (own_names l cs)) + (if b then function_scopes x cs else 0)) is
+
+no_scopes : (x : Name) (l : Label) (cs : Forest) → opens_scope l ≡ false → own_scopes x l cs ≡ 0
+unfolding own_scopes
+no_scopes x (tree.Fn o) cs h = absurd (false≢true (sym h))
+no_scopes x tree.Arrow cs h = absurd (false≢true (sym h))
+no_scopes x tree.Method cs h = absurd (false≢true (sym h))
+no_scopes x (tree.FnDecl f) cs h = absurd (false≢true (sym h))
+no_scopes x (tree.ExportDefaultFn o) cs h = absurd (false≢true (sym h))
+no_scopes x tree.Block cs h = absurd (false≢true (sym h))
+no_scopes x tree.For cs h = absurd (false≢true (sym h))
+no_scopes x (tree.Switch ds) cs h = absurd (false≢true (sym h))
+no_scopes x (tree.Try o) cs h = absurd (false≢true (sym h))
+no_scopes x tree.Module cs h = absurd (false≢true (sym h))
+no_scopes x tree.Script cs h = absurd (false≢true (sym h))
+no_scopes x l cs h = refl
+
+pub none_opened : (old : Name → Bool) (l : Label) (cs : Forest) → opens_scope l ≡ false → Binds true old old (λ x. own_scopes x l cs)
+none_opened old l cs h = λ x. none_behind (one_if (old x)) (own_scopes x l cs) (no_scopes x l cs h)
 
 -- the scopes of a tree
 

@@ -6,7 +6,7 @@ pub mod Halves
 pub mod Binding
 pub mod Specifiers
 pub mod Beside
-pub mod Stands
+pub mod Good
 pub mod Verdict
 pub mod Once
 pub mod Fits

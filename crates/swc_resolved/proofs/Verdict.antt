@@ -2,14 +2,17 @@
 use Rattle.std.proofs.Common.{◌≡◌, ℕ, ◌+◌, ◌≤◌, Bool, true, false, not, ◌&&◌, refl, sym, ap, ap₂, subst, ◌∙◌, arith}
 use Rattle.std.proofs.lemmas.Bool.{false≢true, and_parts}
 use Rattle.std.specs.Bool.{MatchBool}
-use Rattle.std.specs.Prelude.{◌↔◌, IsTrue}
+use Rattle.std.specs.Prelude.{◌↔◌, IsTrue, if◌then◌else◌}
 use Rattle.swc_ast.specs.Tree.{Name, Label, Tree, Forest}
 use Rattle.swc_ast.specs.Meaning.{is_unresolved}
-use Rattle.swc_ast.specs.Resolved.{one_if, is_default, own_scopes, scopes, scopes_all, no_targets, aimed, apart, own_exports_bound, IsResolved}
+use Rattle.swc_ast.specs.Resolved.{one_if, is_default, own_scopes, scopes, scopes_all, no_targets, below, aimed, apart, own_exports_bound, IsResolved}
+use Rattle.swc_ast.specs.Valid.{valid}
 use Rattle.swc_visit.specs.Nodes.{label_of, children_of}
 use Rattle.swc_resolved.specs.Names.{is_free}
 use Rattle.swc_resolved.specs.Scopes.{Binds, BindsWell}
+use Rattle.swc_resolved.specs.Asked.{own_good, good, good_all, Passes, IsAsked}
 use Rattle.swc_resolved.proofs.Binding.{scopes_as}
+use Rattle.swc_resolved.proofs.Good.{split_as}
 
 -- from what is bound
 
@@ -57,10 +60,36 @@ well_bound mark t r = ((λ x. none_free (is_unresolved mark x) (is_default x) (s
 pub refused : {P : Type 0} → (P → ⊥) → IsTrue false ↔ P
 refused f = ((λ h. absurd (false≢true h)), (λ p. absurd (f p)))
 
-pub badly_bound : (b : Bool) (mark : ℕ) (t : Tree) → b ≡ false → MatchBool b (BindsWell mark t) (BindsWell mark t → ⊥) → IsTrue false ↔ IsResolved mark t
-badly_bound b mark t is h = let unbound : BindsWell mark t → ⊥ = subst (λ c. MatchBool c (BindsWell mark t) (BindsWell mark t → ⊥)) is h in refused (λ r. unbound (well_bound mark t r))
+-- validity too, where it is asked for
 
-pub last_decides : (b c : Bool) (mark : ℕ) (t : Tree) → c ≡ true → MatchBool c (BindsWell mark t) (BindsWell mark t → ⊥) → b ≡ (aimed no_targets t && apart t) → IsTrue b ↔ IsResolved mark t
-last_decides b c mark t bound h e =
-    let well : BindsWell mark t = subst (λ a. MatchBool a (BindsWell mark t) (BindsWell mark t → ⊥)) bound h in
-    ((λ is. let both = and_parts (aimed no_targets t) (apart t) (sym e ∙ is) in resolved mark t well both.0 both.1), (λ r. e ∙ ap₂ (λ a d. a && d) r.jumps_aimed r.params_stand_apart))
+asked_resolved : (v : Bool) (mark : ℕ) (t : Tree) → IsAsked v mark t → IsResolved mark t
+asked_resolved true mark t asked = asked.1
+asked_resolved false mark t asked = asked
+
+well_asked : (v : Bool) (mark : ℕ) (t : Tree) → IsAsked v mark t → BindsWell mark t
+well_asked v mark t asked = well_bound mark t (asked_resolved v mark t asked)
+
+jumps_and_params : (mark : ℕ) (t : Tree) → IsResolved mark t → (aimed no_targets t && apart t) ≡ true
+jumps_and_params mark t r = ap₂ (λ a b. a && b) r.jumps_aimed r.params_stand_apart
+
+asked_good : (v : Bool) (mark : ℕ) (t : Tree) → IsAsked v mark t → good v no_targets t ≡ true
+asked_good true mark t asked = ap₂ (λ a b. a && b) asked.0 (jumps_and_params mark t asked.1)
+asked_good false mark t asked = jumps_and_params mark t asked
+
+all_asked : (v : Bool) (mark : ℕ) (t : Tree) → good v no_targets t ≡ true → BindsWell mark t → IsAsked v mark t
+all_asked true mark t is well =
+    let parts = and_parts (valid t) (aimed no_targets t && apart t) is in let both = and_parts (aimed no_targets t) (apart t) parts.1 in
+    (parts.0, resolved mark t well both.0 both.1)
+all_asked false mark t is well = let both = and_parts (aimed no_targets t) (apart t) is in resolved mark t well both.0 both.1
+
+pub badly_placed : (v : Bool) (mark : ℕ) (t : Tree) (l : Label) (cs : Forest) → label_of t ≡ l → children_of t ≡ cs → own_good v no_targets l cs ≡ false → IsTrue false ↔ IsAsked v mark t
+badly_placed v mark t l cs labelled held own = refused (λ asked. false≢true (sym (split_as false v no_targets t l cs labelled held own) ∙ asked_good v mark t asked))
+
+pub badly_bound : (v : Bool) (mark : ℕ) (t : Tree) → (BindsWell mark t → ⊥) → IsTrue false ↔ IsAsked v mark t
+badly_bound v mark t unbound = refused (λ asked. unbound (well_asked v mark t asked))
+
+pub decided : (b v : Bool) (mark : ℕ) (old mid new : Name → Bool) (t : Tree) (l : Label) (cs : Forest) → label_of t ≡ l → children_of t ≡ cs → own_good v no_targets l cs ≡ true → ((x : Name) → old x ≡ is_free mark x) → Binds true old mid (λ x. own_scopes x l cs) → own_exports_bound t ≡ true → Passes b (good_all v (below l no_targets) cs) mid new (λ x. scopes_all x cs) → IsTrue b ↔ IsAsked v mark t
+decided true v mark old mid new t l cs labelled held own free first exports passes =
+    ((λ is. all_asked v mark t (split_as true v no_targets t l cs labelled held own ∙ passes.0) (bound_late true mark old mid new t l cs labelled held free first exports passes.1)), (λ asked. refl))
+decided false v mark old mid new t l cs labelled held own free first exports passes =
+    refused (λ asked. bound_late false mark old mid new t l cs labelled held free first exports (passes (sym (split_as true v no_targets t l cs labelled held own) ∙ asked_good v mark t asked)) (well_asked v mark t asked))

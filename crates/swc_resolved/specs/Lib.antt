@@ -4,3 +4,4 @@ pub mod Parts
 pub mod Scopes
 pub mod Exports
 pub mod Once
+pub mod Asked

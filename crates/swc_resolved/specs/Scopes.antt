@@ -36,6 +36,16 @@ abbrev pub is_defaulted : Label → Forest → Bool
 is_defaulted (tree.Param x) (d ⊳ ds) = true
 is_defaulted _ ds = false
 
+-- a node that opens scopes
+abbrev pub opens_scope : Label → Bool
+opens_scope tree.Module = true
+opens_scope tree.Script = true
+opens_scope tree.Block = true
+opens_scope tree.For = true
+opens_scope (tree.Switch ds) = true
+opens_scope (tree.Try o) = true
+opens_scope l = is_function l
+
 -- Scopes are bound, as many for each name as `more` says: names that were taken or are bound by them are taken;
 -- or one of them is bound a second time.
 abbrev pub Binds : Bool → (Name → Bool) → (Name → Bool) → (Name → ℕ) → Type 0

@@ -11,10 +11,12 @@ mod jumps;
 mod names;
 mod resolved;
 mod scopes;
-mod standing;
+mod walk;
 
 pub use core_trees::{is_core, is_script_core};
 pub use declared::{Part, add_body, add_names, add_own_names};
 pub use functions::{Half, half_of, has_default};
 pub use names::{Name, NameSet};
-pub use resolved::{is_resolved, is_script_resolved};
+pub use resolved::{
+    is_resolved, is_script_resolved, is_script_valid_and_resolved, is_valid_and_resolved,
+};

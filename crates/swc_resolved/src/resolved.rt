@@ -1,16 +1,16 @@
 //! Whether a tree is resolved.
-ghost use Rattle.std.specs.Prelude.{◌≡◌, ◌↔◌, IsTrue, IfOk, IfErr};
-ghost use Rattle.std.specs.Bool.{MatchBool};
+ghost use Rattle.std.specs.Prelude.{◌≡◌, ◌↔◌, true, IsTrue, IfOk, IfErr};
 ghost use Rattle.swc_ast.specs.declared.errors.PassError.TheVariants.{OutOfMemory};
 ghost use Rattle.swc_ast.specs.Marks.{mark_number};
 ghost use Rattle.swc_ast.specs.Modules.{module_tree, script_tree};
 ghost use Rattle.swc_ast.specs.Resolved.{IsResolved};
+ghost use Rattle.swc_ast.specs.Valid.{valid};
 ghost use Rattle.swc_visit.specs.Nodes.{node_tree};
-ghost use Rattle.swc_resolved.specs.Scopes.{BindsWell};
+ghost use Rattle.swc_resolved.specs.Asked.{IsAsked};
 
 use crate::jumps::Targets;
 use crate::names::Taken;
-use crate::standing::stands_well;
+use crate::walk::is_own_good;
 use std::alloc::{AllocError, Global};
 use swc_ast::{Mark, Module, PassError, Script};
 use swc_visit::Node;
@@ -24,7 +24,7 @@ pub fn is_resolved(m: &Module, unresolved_mark: Mark) -> Result<bool, PassError>
     ensures error { IfErr result (λ e. e ≡ OutOfMemory) }
 {
     let alloc = *m.body.allocator();
-    let answer = is_tree_resolved(Node::Module(m), unresolved_mark, alloc)?;
+    let answer = is_asked(Node::Module(m), false, unresolved_mark, alloc)?;
     Ok(answer)
 }
 
@@ -34,27 +34,46 @@ pub fn is_script_resolved(s: &Script, unresolved_mark: Mark) -> Result<bool, Pas
     ensures error { IfErr result (λ e. e ≡ OutOfMemory) }
 {
     let alloc = *s.body.allocator();
-    let answer = is_tree_resolved(Node::Script(s), unresolved_mark, alloc)?;
+    let answer = is_asked(Node::Script(s), false, unresolved_mark, alloc)?;
     Ok(answer)
 }
 
-fn is_tree_resolved(n: Node<'_>, unresolved_mark: Mark, alloc: Global) -> Result<bool, AllocError>
-    ensures { IfOk result (λ b. IsTrue b ↔ IsResolved (mark_number unresolved_mark) (node_tree n.entry)) }
+/// Whether a module is valid and resolved for a mark, as `swc_debug::is_valid` and `is_resolved` tell, by one walk. Fails where
+/// memory is refused.
+pub fn is_valid_and_resolved(m: &Module, unresolved_mark: Mark) -> Result<bool, PassError>
+    ensures answer { IfOk result (λ b. IsTrue b ↔ (valid (module_tree m.now) ≡ true) × IsResolved (mark_number unresolved_mark) (module_tree m.now)) }
+    ensures error { IfErr result (λ e. e ≡ OutOfMemory) }
 {
-    let is_bound = binds_well(n, unresolved_mark, alloc)?;
-    if !is_bound {
-        return Ok(false);
-    }
-    let stands = stands_well(n, Targets::none(), alloc)?;
-    Ok(stands)
+    let alloc = *m.body.allocator();
+    let answer = is_asked(Node::Module(m), true, unresolved_mark, alloc)?;
+    Ok(answer)
 }
 
-/// Whether no name is bound twice, no unresolved name is bound, and what is exported by name is
-/// bound.
-fn binds_well(n: Node<'_>, unresolved_mark: Mark, alloc: Global) -> Result<bool, AllocError>
-    ensures { IfOk result (λ b. MatchBool b (BindsWell (mark_number unresolved_mark) (node_tree n.entry)) (BindsWell (mark_number unresolved_mark) (node_tree n.entry) → ⊥)) }
+/// The same of a script, which has no exports.
+pub fn is_script_valid_and_resolved(s: &Script, unresolved_mark: Mark) -> Result<bool, PassError>
+    ensures answer { IfOk result (λ b. IsTrue b ↔ (valid (script_tree s.now) ≡ true) × IsResolved (mark_number unresolved_mark) (script_tree s.now)) }
+    ensures error { IfErr result (λ e. e ≡ OutOfMemory) }
+{
+    let alloc = *s.body.allocator();
+    let answer = is_asked(Node::Script(s), true, unresolved_mark, alloc)?;
+    Ok(answer)
+}
+
+/// Whether a tree is resolved, and valid where this is asked for.
+#[tactic(auto, using(crate::proofs::Verdict::badly_placed, crate::proofs::Verdict::bound_early))]
+fn is_asked(
+    n: Node<'_>,
+    valid_too: bool,
+    unresolved_mark: Mark,
+    alloc: Global,
+) -> Result<bool, AllocError>
+    ensures { IfOk result (λ b. IsTrue b ↔ IsAsked valid_too (mark_number unresolved_mark) (node_tree n.entry)) }
 {
     let opened = n.open();
+    let none = Targets::none();
+    if !is_own_good(opened.kind, opened.children, valid_too, &none, alloc)? {
+        return Ok(false);
+    }
     let mut taken = Taken::new(unresolved_mark, alloc);
     let is_bound = taken.bind_own(opened.kind, opened.children, alloc)?;
     if !is_bound {
@@ -63,6 +82,6 @@ fn binds_well(n: Node<'_>, unresolved_mark: Mark, alloc: Global) -> Result<bool,
     if !taken.own_exports_bound(opened.kind, opened.children, unresolved_mark) {
         return Ok(false);
     }
-    let is_all_bound = taken.bind_all(opened.children, alloc)?;
-    Ok(is_all_bound)
+    let passes = taken.walk_below(opened.kind, opened.children, valid_too, &none, alloc)?;
+    Ok(passes)
 }

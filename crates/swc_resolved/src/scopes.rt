@@ -1,19 +1,33 @@
 //! Scopes, and the names that they bind.
 ghost use Rattle.std.specs.Prelude.{◌≡◌, ◌||◌, IfOk, OnOk};
 ghost use Rattle.std.specs.List.{list_any};
-ghost use Rattle.swc_ast.specs.Resolved.{one_if, function_scopes, own_scopes, scopes, scopes_all};
+ghost use Rattle.swc_ast.specs.Resolved.{one_if, function_scopes, own_scopes};
 ghost use Rattle.swc_ast.specs.Scope.{has_name};
 ghost use Rattle.swc_ast.specs.Tree as tree;
 ghost use Rattle.swc_visit.specs.Kinds.{kind_label};
-ghost use Rattle.swc_visit.specs.Nodes.{node_tree, children_forest};
+ghost use Rattle.swc_visit.specs.Nodes.{children_forest};
 ghost use Rattle.swc_resolved.specs.Names.{names as names_of, is_taken};
-ghost use Rattle.swc_resolved.specs.Scopes.{Binds};
+ghost use Rattle.swc_resolved.specs.Scopes.{Binds, opens_scope};
 
 use crate::declared::{Part, add_body, add_names, add_own_names};
 use crate::functions::{Half, half_of, has_default, is_function};
 use crate::names::{Name, Taken};
 use std::alloc::{AllocError, Global};
-use swc_visit::{Children, Kind, Node};
+use swc_visit::{Children, Kind};
+
+/// Whether a node opens a scope.
+fn opens_scope(kind: Kind<'_>) -> bool
+    ensures { result ≡ opens_scope (kind_label kind.entry) }
+{
+    match kind {
+        Kind::Module | Kind::Script => true,
+        Kind::Block | Kind::For | Kind::Switch(_) | Kind::Try(_) => true,
+        Kind::Fn(_) | Kind::Arrow | Kind::Method | Kind::FnDecl(_) | Kind::ExportDefaultFn(_) => {
+            true
+        }
+        _ => false,
+    }
+}
 
 impl<'a> Taken<'a> {
     /// Binds the names of a scope, and says whether none of them was taken. Fails where memory is
@@ -73,6 +87,7 @@ impl<'a> Taken<'a> {
     }
 
     /// Binds the scopes that a node opens, those of its children aside.
+    #[tactic(auto, using(crate::proofs::Binding::none_opened))]
     pub(crate) fn bind_own(
         &mut self,
         kind: Kind<'a>,
@@ -81,6 +96,9 @@ impl<'a> Taken<'a> {
     ) -> Result<bool, AllocError>
         ensures { IfOk result (λ b. Binds b (is_taken self.old) (is_taken self.new) (λ x. own_scopes x (kind_label kind.entry) (children_forest children.entry))) }
     {
+        if !opens_scope(kind) {
+            return Ok(true);
+        }
         let mut names = Vec::new(alloc);
         add_own_names(&mut names, kind, children)?;
         if !is_function(kind) {
@@ -90,38 +108,5 @@ impl<'a> Taken<'a> {
             return Ok(false);
         }
         self.bind_function(children, alloc)
-    }
-
-    /// Binds each scope of a tree, and says whether none binds a name that was taken. Fails where
-    /// memory is refused.
-    #[cycle(bind)]
-    fn bind(&mut self, n: Node<'a>, alloc: Global) -> Result<bool, AllocError>
-        ensures { IfOk result (λ b. Binds b (is_taken self.old) (is_taken self.new) (λ x. scopes x (node_tree n.entry))) }
-    {
-        let opened = n.open();
-        if !self.bind_own(opened.kind, opened.children, alloc)? {
-            return Ok(false);
-        }
-        self.bind_all(opened.children, alloc)
-    }
-
-    /// Binds each scope of trees, as of one.
-    #[cycle(bind)]
-    #[tactic(auto, using(swc_visit::proofs::Caps::rest_falls))]
-    pub(crate) fn bind_all(
-        &mut self,
-        children: Children<'a>,
-        alloc: Global,
-    ) -> Result<bool, AllocError>
-        ensures { IfOk result (λ b. Binds b (is_taken self.old) (is_taken self.new) (λ x. scopes_all x (children_forest children.entry))) }
-    {
-        let mut left = children;
-        while let Some((child, rest)) = left.next() {
-            if !self.bind(child, alloc)? {
-                return Ok(false);
-            }
-            left = rest;
-        }
-        Ok(true)
     }
 }

@@ -10,9 +10,8 @@ ghost use Rattle.swc_text.specs.declared.error.ReadError.TheVariants.{TooLong};
 use crate::error::{ReadError, told};
 use std::alloc::Global;
 use swc_ast::{Expr, Mark, Module, Script};
-use swc_debug::{is_script_valid, is_valid};
 use swc_parser::{parse_expr, parse_module, parse_script};
-use swc_resolved::{is_resolved, is_script_resolved};
+use swc_resolved::{is_script_valid_and_resolved, is_valid_and_resolved};
 
 /// 2^31, in bytes
 const TOO_LONG: usize = 0x8000_0000;
@@ -42,7 +41,7 @@ fn checked_module(read: Module, unresolved_mark: Mark) -> Result<Module, ReadErr
     ensures resolved { IfOk result (λ m. IsResolved (mark_number unresolved_mark) (module_tree m)) }
     ensures refused { IfErr result (λ e. e ≢ TooLong) }
 {
-    let is_good = is_valid(&read) && is_resolved(&read, unresolved_mark)?;
+    let is_good = is_valid_and_resolved(&read, unresolved_mark)?;
     if is_good {
         Ok(read)
     } else {
@@ -72,7 +71,7 @@ fn checked_script(read: Script, unresolved_mark: Mark) -> Result<Script, ReadErr
     ensures resolved { IfOk result (λ s. IsResolved (mark_number unresolved_mark) (script_tree s)) }
     ensures refused { IfErr result (λ e. e ≢ TooLong) }
 {
-    let is_good = is_script_valid(&read) && is_script_resolved(&read, unresolved_mark)?;
+    let is_good = is_script_valid_and_resolved(&read, unresolved_mark)?;
     if is_good {
         Ok(read)
     } else {

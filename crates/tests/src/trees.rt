@@ -11,7 +11,10 @@ use swc_ast::{
     VarDeclKind, WhileStmt,
 };
 use swc_debug::{is_script_valid, is_valid};
-use swc_resolved::{is_core, is_resolved, is_script_core, is_script_resolved};
+use swc_resolved::{
+    is_core, is_resolved, is_script_core, is_script_resolved, is_script_valid_and_resolved,
+    is_valid_and_resolved,
+};
 
 fn script(alloc: Global, s: Stmt) -> Result<Script, AllocError> {
     let body = vec![in alloc; s]?;
@@ -54,6 +57,7 @@ fn loop_on_let(alloc: Global) -> Result<Stmt, AllocError> {
 #[test]
 fn invalid_trees_are_told(rt: HostRuntime) -> Result<(), Fail> {
     let alloc = rt.alloc();
+    let mark = Mark::new(1).expect(&rt, "1 is a mark");
     let span = span();
     let exprs = vec![in alloc; number(1)]?;
     let mut stmts = vec![in alloc;
@@ -67,8 +71,14 @@ fn invalid_trees_are_told(rt: HostRuntime) -> Result<(), Fail> {
         stmts.push(statement(alloc, Expr::Ident(ident(alloc, word, 1)?))?)?;
     }
     for (i, s) in stmts.into_iter().enumerate() {
-        assert!(rt; !is_script_valid(&script(alloc, s.clone()?)?), "{i}");
-        assert!(rt; !is_valid(&module(alloc, s)?), "{i}");
+        let (a, b) = (script(alloc, s.clone()?)?, module(alloc, s)?);
+        assert!(rt;
+            !is_script_valid(&a) && is_script_resolved(&a, mark)?,
+            "{i}"
+        );
+        assert!(rt; !is_valid(&b) && is_resolved(&b, mark)?, "{i}");
+        assert!(rt; !is_script_valid_and_resolved(&a, mark)?, "{i}");
+        assert!(rt; !is_valid_and_resolved(&b, mark)?, "{i}");
     }
     Ok(())
 }
@@ -117,11 +127,14 @@ fn unresolved_trees_are_told(rt: HostRuntime) -> Result<(), Fail> {
     let body = vec![in alloc; declare(alloc, VarDeclKind::Let, 4)?]?;
     stmts.push(function(alloc, params, body)?)?;
     for (i, s) in stmts.into_iter().enumerate() {
+        let (a, b) = (script(alloc, s.clone()?)?, module(alloc, s)?);
         assert!(rt;
-            !is_script_resolved(&script(alloc, s.clone()?)?, mark)?,
+            is_script_valid(&a) && !is_script_resolved(&a, mark)?,
             "{i}"
         );
-        assert!(rt; !is_resolved(&module(alloc, s)?, mark)?, "{i}");
+        assert!(rt; is_valid(&b) && !is_resolved(&b, mark)?, "{i}");
+        assert!(rt; !is_script_valid_and_resolved(&a, mark)?, "{i}");
+        assert!(rt; !is_valid_and_resolved(&b, mark)?, "{i}");
     }
     Ok(())
 }
@@ -145,6 +158,7 @@ fn exports_are_bound_by_the_module(rt: HostRuntime) -> Result<(), Fail> {
         let export = ModuleDecl::ExportNamed(NamedExport { span, specifiers });
         m.body.push(ModuleItem::ModuleDecl(export))?;
         assert!(rt; is_resolved(&m, mark)? == is_bound, "{text}");
+        assert!(rt; is_valid_and_resolved(&m, mark)? == is_bound, "{text}");
     }
     Ok(())
 }

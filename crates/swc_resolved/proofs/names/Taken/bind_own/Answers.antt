@@ -6,8 +6,11 @@ use Rattle.swc_visit.specs.Kinds.{kind_label}
 use Rattle.swc_visit.specs.Nodes.{children_forest}
 use Rattle.swc_resolved.specs.Names.{names, is_taken}
 use Rattle.swc_resolved.specs.Scopes.{own_names, Binds}
-use Rattle.swc_resolved.proofs.Binding.{gathered_one, last_binds_as, last_binds, stops_here, no_function, with_function}
+use Rattle.swc_resolved.proofs.Binding.{none_opened, gathered_one, last_binds_as, last_binds, stops_here, no_function, with_function}
 use Rattle.swc_resolved.proofs.names.Taken.bind_own.Goals as goal
+
+pub returns-then-not-opens_scope : goal.returns-then-not-opens_scope
+returns-then-not-opens_scope c = none_opened (is_taken c.args.self.now) (kind_label c.args.kind) (children_forest c.args.children) (sym c.opens_scope.ensures ∙ c.if-not-opens_scope.true)
 
 pub returns-then-not-is_function : goal.returns-then-not-is_function
 returns-then-not-is_function c =

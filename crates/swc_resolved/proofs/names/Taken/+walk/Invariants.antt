@@ -1,0 +1,24 @@
+use Rattle.std.proofs.Common.{◌≡◌, ◌≤◌, ◌+◌, ◌*◌}
+use Rattle.swc_ast.specs.Resolved.{one_if, scopes_all}
+use Rattle.swc_ast.specs.Tree.{Name}
+use Rattle.swc_visit.specs.Nodes.{node_tree, children_forest}
+use Rattle.swc_visit.proofs.Caps.{tree_size, forest_size}
+use Rattle.swc_resolved.specs.Jumps.{targets}
+use Rattle.swc_resolved.specs.Names.{is_taken}
+use Rattle.swc_resolved.specs.Asked.{good_all}
+use Rattle.swc_resolved.proofs.names.Taken.+walk.Given as goal
+
+abbrev pub decreases-walk : goal.decreases-walk
+decreases-walk l = tree_size (node_tree l.n) * 2
+
+abbrev pub decreases-walk_below : goal.decreases-walk_below
+decreases-walk_below l = forest_size (children_forest l.children) * 2 + 1
+
+abbrev pub decreases-walk_all : goal.decreases-walk_all
+decreases-walk_all l = forest_size (children_forest l.children) * 2
+
+abbrev pub invariant-walk_all-loop-child : goal.invariant-walk_all-loop-child
+invariant-walk_all-loop-child l = (good_all l.valid_too (targets l.g) (children_forest l.left) ≡ good_all l.valid_too (targets l.g) (children_forest l.children)) × ((x : Name) → one_if (is_taken l.self x) + scopes_all x (children_forest l.left) ≡ one_if (is_taken l.initial.self x) + scopes_all x (children_forest l.children)) × (forest_size (children_forest l.left) ≤ forest_size (children_forest l.children))
+
+abbrev pub decreases-walk_all-loop-child : goal.decreases-walk_all-loop-child
+decreases-walk_all-loop-child l = forest_size (children_forest l.left)

@@ -1,0 +1,137 @@
+//! One walk over a tree: what its scopes bind, whether jumps have targets and parameters stand apart, and validity where it is
+//! asked for.
+ghost use Rattle.std.specs.Prelude.{◌≡◌, IfOk};
+ghost use Rattle.swc_ast.specs.Resolved.{below, scopes, scopes_all};
+ghost use Rattle.swc_visit.specs.Kinds.{kind_label};
+ghost use Rattle.swc_visit.specs.Nodes.{node_tree, children_forest};
+ghost use Rattle.swc_resolved.specs.Jumps.{targets};
+ghost use Rattle.swc_resolved.specs.Names.{is_taken};
+ghost use Rattle.swc_resolved.specs.Asked.{own_good, good, good_all, Passes};
+
+use crate::apart::is_own_apart;
+use crate::jumps::{Targets, is_jump_aimed, joined};
+use crate::names::Taken;
+use std::alloc::{AllocError, Global};
+use swc_debug::{has_good_names, has_good_shape};
+use swc_visit::{Children, Kind, Node};
+
+/// Whether a node that is a jump has a target, a function with a default declares no text of a parameter in its body, and, where
+/// validity is asked for, the node's names and its children are as validity wants them. Fails where memory is refused.
+pub(crate) fn is_own_good(
+    kind: Kind<'_>,
+    children: Children<'_>,
+    valid_too: bool,
+    g: &Targets<'_>,
+    alloc: Global,
+) -> Result<bool, AllocError>
+    ensures { IfOk result (λ b. b ≡ own_good valid_too (targets g.now) (kind_label kind.entry) (children_forest children.entry)) }
+{
+    if valid_too && !(has_good_names(kind) && has_good_shape(kind, children)) {
+        return Ok(false);
+    }
+    if !is_jump_aimed(kind, *g) {
+        return Ok(false);
+    }
+    is_own_apart(kind, children, alloc)
+}
+
+impl<'a> Taken<'a> {
+    /// Binds each scope of a tree where jumps may go to `g`, and says whether none binds a name that was taken and the tree is
+    /// good. Fails where memory is refused.
+    #[cycle(walk)]
+    #[tactic(auto, using(crate::proofs::Good::own_binds_again))]
+    fn walk(
+        &mut self,
+        n: Node<'a>,
+        valid_too: bool,
+        g: &Targets<'_>,
+        alloc: Global,
+    ) -> Result<bool, AllocError>
+        ensures { IfOk result (λ b. Passes b (good valid_too (targets g.now) (node_tree n.entry)) (is_taken self.old) (is_taken self.new) (λ x. scopes x (node_tree n.entry))) }
+    {
+        let opened = n.open();
+        if !is_own_good(opened.kind, opened.children, valid_too, g, alloc)? {
+            return Ok(false);
+        }
+        if !self.bind_own(opened.kind, opened.children, alloc)? {
+            return Ok(false);
+        }
+        self.walk_below(opened.kind, opened.children, valid_too, g, alloc)
+    }
+
+    /// The same of the children of a node, where jumps at the node may go to `g`.
+    #[cycle(walk)]
+    pub(crate) fn walk_below(
+        &mut self,
+        kind: Kind<'a>,
+        children: Children<'a>,
+        valid_too: bool,
+        g: &Targets<'_>,
+        alloc: Global,
+    ) -> Result<bool, AllocError>
+        ensures { IfOk result (λ b. Passes b (good_all valid_too (below (kind_label kind.entry) (targets g.now)) (children_forest children.entry)) (is_taken self.old) (is_taken self.new) (λ x. scopes_all x (children_forest children.entry))) }
+    {
+        match kind {
+            Kind::Labeled(name) => {
+                let labels = joined(&[&*name.sym], g.labels, alloc)?;
+                let own = joined(&[&*name.sym], g.own, alloc)?;
+                let inner = Targets {
+                    labels: &labels,
+                    own: &own,
+                    ..*g
+                };
+                self.walk_all(children, valid_too, &inner, alloc)
+            }
+            Kind::While | Kind::DoWhile | Kind::For => {
+                let loops = joined(g.own, g.loops, alloc)?;
+                let inner = Targets {
+                    labels: g.labels,
+                    loops: &loops,
+                    can_break: true,
+                    can_continue: true,
+                    own: &[],
+                };
+                self.walk_all(children, valid_too, &inner, alloc)
+            }
+            Kind::Switch(_) => {
+                let inner = Targets {
+                    can_break: true,
+                    own: &[],
+                    ..*g
+                };
+                self.walk_all(children, valid_too, &inner, alloc)
+            }
+            Kind::Fn(_) | Kind::Arrow | Kind::Method | Kind::FnDecl(_) | Kind::ExportDefaultFn(_) =>
+                { self.walk_all(children, valid_too, &Targets::none(), alloc) }
+            _ => match g.own {
+                [] => self.walk_all(children, valid_too, g, alloc),
+                _ => {
+                    let inner = Targets { own: &[], ..*g };
+                    self.walk_all(children, valid_too, &inner, alloc)
+                }
+            },
+        }
+    }
+
+    /// The same of each of some trees.
+    #[cycle(walk)]
+    #[tactic(auto, using(swc_visit::proofs::Caps::rest_falls, crate::proofs::Sizes::rest_within, crate::proofs::Good::first_fails, crate::proofs::Good::rest_decides, crate::proofs::Good::rest_binds, crate::proofs::Good::ends))]
+    fn walk_all(
+        &mut self,
+        children: Children<'a>,
+        valid_too: bool,
+        g: &Targets<'_>,
+        alloc: Global,
+    ) -> Result<bool, AllocError>
+        ensures { IfOk result (λ b. Passes b (good_all valid_too (targets g.now) (children_forest children.entry)) (is_taken self.old) (is_taken self.new) (λ x. scopes_all x (children_forest children.entry))) }
+    {
+        let mut left = children;
+        while let Some((child, rest)) = left.next() {
+            if !self.walk(child, valid_too, g, alloc)? {
+                return Ok(false);
+            }
+            left = rest;
+        }
+        Ok(true)
+    }
+}
