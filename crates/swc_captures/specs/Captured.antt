@@ -128,3 +128,12 @@ abbrev mutual
 abbrev pub first_of : List Name → Option Name
 first_of [] = None
 first_of (x ∷ xs) = Some x
+
+-- what is seen of nodes: the first of their captured names, or else whether they are valid
+pub data Sight : Type 0 where
+  Caught : Name → Sight
+  Sound : Bool → Sight
+
+abbrev pub seen : List Name → Bool → Sight
+seen [] is_valid = Sound is_valid
+seen (x ∷ xs) is_valid = Caught x

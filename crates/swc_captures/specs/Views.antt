@@ -1,5 +1,5 @@
--- The names, scopes and places that borrowed parts stand for.
-use Rattle.std.specs.Prelude.{ℕ, Bool, ◌==◌, List, [], map, Option, Some, None, is_some, Vec}
+-- The names, scopes, places and faults that borrowed parts stand for.
+use Rattle.std.specs.Prelude.{◌≡◌, ℕ, Bool, true, false, ◌==◌, List, [], map, Option, Some, None, is_some, Vec}
 use Rattle.std.specs.Borrow.{Bor}
 use Rattle.std.specs.List.{list_any}
 use Rattle.std.specs.HashMap.{get_by_text}
@@ -8,6 +8,9 @@ use Rattle.swc_ast.specs.Tree as tree
 use Rattle.swc_ast.specs.Parts.{ident_name}
 use Rattle.swc_ast.specs.declared.names.Ident.{Ident}
 use Rattle.swc_ast.specs.declared.names.SyntaxContext.{SyntaxContext}
+use Rattle.swc_captures.specs.declared.captures.Fault.{Fault}
+use Rattle.swc_captures.specs.declared.captures.Fault.TheVariants as fault
+use Rattle.swc_captures.specs.declared.captures.Seen.{Seen}
 use Rattle.swc_captures.specs.declared.scope.Declared.{Declared}
 use Rattle.swc_captures.specs.declared.inside.Round.{Round}
 use Rattle.swc_captures.specs.Captured as captured
@@ -16,6 +19,20 @@ use Rattle.swc_captures.specs.Captured as captured
 abbrev pub told : Option (Bor Ident) → Option tree.Name
 told None = None
 told (Some n) = Some (ident_name n.now)
+
+-- a captured name, or whether nodes are valid
+abbrev pub sight_of : Option (Bor Ident) → Bool → captured.Sight
+sight_of None is_valid = captured.Sound is_valid
+sight_of (Some n) is_valid = captured.Caught (ident_name n.now)
+
+abbrev pub sight : Seen → captured.Sight
+sight s = sight_of s.captured s.is_valid
+
+-- the first captured name is told; of a tree without one, given whether it is valid, that it isn't
+abbrev pub Tells : List tree.Name → Bool → Option Fault → Type 0
+Tells xs is_valid (Some (fault.Captured n)) = captured.first_of xs ≡ Some (ident_name n.now)
+Tells xs is_valid (Some fault.Invalid) = (xs ≡ []) × (is_valid ≡ false)
+Tells xs is_valid None = (xs ≡ []) × (is_valid ≡ true)
 
 -- contexts, if any
 abbrev pub items_of : Option (Vec SyntaxContext Global) → List SyntaxContext

@@ -1,8 +1,9 @@
-//! Which names of a tree the scopes round them would catch, if texts alone told names apart.
+//! Which names of a tree the scopes round them would catch, if texts alone told names apart, and
+//! whether the tree is valid.
 #![tactic(auto)]
 
 mod captures;
 mod inside;
 mod scope;
 
-pub use captures::{first_captured, first_captured_of_script};
+pub use captures::{Fault, first_fault, first_fault_of_script};

@@ -8,7 +8,7 @@ use Rattle.swc_visit.specs.Nodes.{label_of, children_of}
 split : (t : Tree) → valid t ≡ (good_names (label_of t) && good_shape (label_of t) (children_of t) && valid_all (children_of t))
 split (node l ss cs) = refl
 
-split_as : (t : Tree) (l : Label) (cs : Forest) → label_of t ≡ l → children_of t ≡ cs → valid t ≡ (good_names l && good_shape l cs && valid_all cs)
+pub split_as : (t : Tree) (l : Label) (cs : Forest) → label_of t ≡ l → children_of t ≡ cs → valid t ≡ (good_names l && good_shape l cs && valid_all cs)
 split_as t l cs labelled held = split t ∙ cc (labelled, held)
 
 first_false : (a b c : Bool) → a ≡ false → (a && b && c) ≡ false

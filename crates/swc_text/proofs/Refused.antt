@@ -1,34 +1,30 @@
--- What the first captured name says of a tree.
-use Rattle.std.proofs.Common.{◌≡◌, List, [], ◌∷◌, Option, Some, None, is_some, option_map, refl, sym, ap, ◌∙◌, true, false, Bool}
-use Rattle.std.proofs.lemmas.Bool.{false≢true}
-use Rattle.std.specs.Prelude.{IsTrue}
-use Rattle.std.specs.Borrow.{Bor}
-use Rattle.swc_ast.specs.Tree.{Text, Name, Tree}
-use Rattle.swc_ast.specs.Parts.{ident_name}
+-- What a fault of a tree says of the tree.
+use Rattle.std.proofs.Common.{◌≡◌, List, [], Option, Some, None, option_map, sym, ap, ◌∙◌, subst, true, false, Bool}
+use Rattle.swc_ast.specs.Tree.{Name, Tree}
 use Rattle.swc_ast.specs.Valid.{valid}
-use Rattle.swc_ast.specs.declared.names.Ident.{Ident}
-use Rattle.swc_captures.specs.Captured.{captured, first_of}
-use Rattle.swc_captures.specs.Views.{told}
+use Rattle.swc_captures.specs.Captured.{captured}
+use Rattle.swc_captures.specs.Views.{Tells}
+use Rattle.swc_captures.specs.declared.captures.Fault.{Fault}
+use Rattle.swc_captures.specs.declared.captures.Fault.TheVariants as fault
 use Rattle.swc_text.specs.declared.error.PrintError.{PrintError}
 use Rattle.swc_text.specs.declared.error.PrintError.TheVariants as print
-use Rattle.swc_text.specs.Refused.{Tells, Refuses}
+use Rattle.swc_text.specs.Refused.{Says, Refuses}
 
--- a captured name is told
-pub refused_name : (t : Tree) (n : Ident) (e : PrintError) → Some (ident_name n) ≡ first_of (captured [] t) → Tells (ident_name n).text e → Refuses t e
-refused_name t n (print.Captured name) h is = sym (ap (λ o. option_map (λ x. x.text) o) h) ∙ ap Some (sym is)
-refused_name t n print.Invalid h is = absurd is
-refused_name t n print.OutOfMemory h is = tt
+-- a fault is told
+refused_by : (t : Tree) (f : Fault) (e : PrintError) → Tells (captured [] t) (valid t) (Some f) → Says f e → Refuses t e
+refused_by t (fault.Captured n) (print.Captured name) h is = ap (option_map (λ x. x.text)) h ∙ ap Some (sym is)
+refused_by t (fault.Captured n) print.Invalid h is = absurd is
+refused_by t (fault.Captured n) print.OutOfMemory h is = tt
+refused_by t fault.Invalid (print.Captured name) h is = absurd is
+refused_by t fault.Invalid print.Invalid h is = h
+refused_by t fault.Invalid print.OutOfMemory h is = tt
 
--- no name is captured
-none : (xs : List Name) → None ≡ first_of xs → xs ≡ []
-none [] h = refl
-none (x ∷ xs) h = absurd (false≢true (ap is_some h))
+pub refused : (t : Tree) (o : Option Fault) (f : Fault) (e : PrintError) → Tells (captured [] t) (valid t) o → o ≡ Some f → Says f e → Refuses t e
+refused t o f e h is said = refused_by t f e (subst (Tells (captured [] t) (valid t)) is h) said
 
-pub uncaptured : (o : Option (Bor Ident)) (xs : List Name) → told o ≡ first_of xs → o ≡ None → xs ≡ []
-uncaptured o xs h is = none xs (ap told (sym is) ∙ h)
+-- there is no fault
+pub uncaptured : (xs : List Name) (v : Bool) (o : Option Fault) → Tells xs v o → o ≡ None → xs ≡ []
+uncaptured xs v o h is = (subst (Tells xs v) is h).0
 
--- a tree that the test refuses isn't valid
-pub invalid : (b v : Bool) → (v ≡ true → IsTrue b) → b ≡ false → v ≡ false
-invalid true v back is = absurd (false≢true (sym is))
-invalid false true back is = absurd (false≢true (back refl))
-invalid false false back is = refl
+pub sound : (xs : List Name) (v : Bool) (o : Option Fault) → Tells xs v o → o ≡ None → v ≡ true
+sound xs v o h is = (subst (Tells xs v) is h).1
