@@ -95,6 +95,10 @@ fn wide_space(bytes: &[u8]) -> Option<Blank> {
 #[inline(always)]
 pub(crate) fn blank_at_front(bytes: &[u8]) -> Option<Blank> {
     let first = bytes.first()?;
+    // Most tokens begin with a letter or a bracket.
+    if matches!(*first, b'0'..=b'~' | b'('..=b'.') {
+        return None;
+    }
     match *first {
         b' ' | b'\t' | 0x0B | 0x0C => Some(space(1)),
         b'\n' | b'\r' => Some(LINE_BREAK),

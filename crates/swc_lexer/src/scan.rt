@@ -137,8 +137,14 @@ impl<'a> Scanner<'a> {
         }
     }
 
-    /// What begins with no letter, digit or quote.
+    /// A punctuator of one byte.
     #[inline(always)]
+    fn single(&mut self, kind: Kind) -> Kind {
+        self.advance(1);
+        kind
+    }
+
+    /// What begins with no letter, digit or quote.
     fn other(&mut self) -> Kind {
         let rest = self.rest();
         match byte_at(rest, 0) {
@@ -153,9 +159,9 @@ impl<'a> Scanner<'a> {
         }
     }
 
-    /// Passes a token and says what it is.
+    /// Passes the token behind others and says what it is.
     #[inline(always)]
-    fn pass_token(&mut self, in_template: bool, begins_regex: bool) -> Kind {
+    fn pass_token(&mut self, before: &Tokens) -> Kind {
         let rest = self.rest();
         let Some(first) = rest.first() else {
             return Kind::End;
@@ -182,8 +188,19 @@ impl<'a> Scanner<'a> {
             b'0'..=b'9' => self.number(),
             b'"' | b'\'' => self.text(*first),
             b'`' => self.template(Kind::Template, Kind::TemplateHead),
-            b'}' if in_template => self.template(Kind::TemplateTail, Kind::TemplateMiddle),
-            b'/' => self.slash(begins_regex),
+            b'(' => self.single(Kind::LeftParen),
+            b')' => self.single(Kind::RightParen),
+            b'[' => self.single(Kind::LeftBracket),
+            b']' => self.single(Kind::RightBracket),
+            b'{' => self.single(Kind::LeftBrace),
+            b'}' if before.is_in_template() => {
+                self.template(Kind::TemplateTail, Kind::TemplateMiddle)
+            }
+            b'}' => self.single(Kind::RightBrace),
+            b';' => self.single(Kind::Semicolon),
+            b',' => self.single(Kind::Comma),
+            b':' => self.single(Kind::Colon),
+            b'/' => self.slash(before.wants_operand()),
             _ => self.other(),
         }
     }
@@ -197,15 +214,14 @@ struct Tokens {
 }
 
 impl Tokens {
-    /// The kind of the innermost bracket that is open.
-    #[inline(always)]
-    fn innermost(&self) -> Kind {
+    /// Whether the innermost bracket that is open is one of a template.
+    fn is_in_template(&self) -> bool {
         match self.open.last() {
             Some(at) => match self.tokens.get(*at as usize) {
-                Some(token) => token.kind,
-                None => Kind::End,
+                Some(token) => matches!(token.kind, Kind::TemplateHead | Kind::TemplateMiddle),
+                None => false,
             },
-            None => Kind::End,
+            None => false,
         }
     }
 
@@ -219,7 +235,6 @@ impl Tokens {
 
     /// Whether an operand is to come next, so that a slash begins a regular expression. Behind `)` and `}` it is taken for a
     /// division.
-    #[inline(always)]
     fn wants_operand(&self) -> bool {
         match self.kind_before(1) {
             Kind::Name | Kind::WideName | Kind::Number | Kind::Text | Kind::Regex => false,
@@ -281,8 +296,7 @@ pub fn tokenize(alloc: Global, text: &str) -> Result<Vec<Token>, AllocError>
     for _ in 0..=bytes.len() {
         let on_new_line = scanner.pass_blanks();
         let start = scanner.place as u32;
-        let in_template = matches!(out.innermost(), Kind::TemplateHead | Kind::TemplateMiddle);
-        let kind = scanner.pass_token(in_template, out.wants_operand());
+        let kind = scanner.pass_token(&out);
         let start = if matches!(kind, Kind::Endless) {
             scanner.place as u32
         } else {
