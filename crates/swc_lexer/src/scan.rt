@@ -137,6 +137,20 @@ impl<'a> Scanner<'a> {
         }
     }
 
+    /// A name or a reserved word.
+    #[inline(always)]
+    fn word(&mut self) -> Kind {
+        let rest = self.rest();
+        let word = &rest[..word_len(rest)];
+        self.advance(word.len());
+        let kind = kind_of_word(word);
+        if self.is_wide() {
+            self.wide_name(kind)
+        } else {
+            kind
+        }
+    }
+
     /// A punctuator of one byte.
     #[inline(always)]
     fn single(&mut self, kind: Kind) -> Kind {
@@ -167,24 +181,7 @@ impl<'a> Scanner<'a> {
             return Kind::End;
         };
         match *first {
-            b'a'..=b'z' => {
-                let word = &rest[..word_len(rest)];
-                self.advance(word.len());
-                let kind = kind_of_word(word);
-                if self.is_wide() {
-                    self.wide_name(kind)
-                } else {
-                    kind
-                }
-            }
-            b'A'..=b'Z' | b'_' | b'$' => {
-                self.advance(word_len(rest));
-                if self.is_wide() {
-                    self.wide_name(Kind::Name)
-                } else {
-                    Kind::Name
-                }
-            }
+            b'a'..=b'z' | b'A'..=b'Z' | b'_' | b'$' => self.word(),
             b'0'..=b'9' => self.number(),
             b'"' | b'\'' => self.text(*first),
             b'`' => self.template(Kind::Template, Kind::TemplateHead),
