@@ -1,5 +1,5 @@
 //! `if`, `switch`, `try` and jumps.
-use crate::cursor::{Nested, Parser, inside, nest_stmt, part};
+use crate::cursor::{Nested, Parser, add, inside, nest_stmt, part};
 use crate::scopes::ScopeKind;
 use crate::targets::Target;
 use swc_ast::{
@@ -65,8 +65,9 @@ impl<'a> Parser<'a> {
             let case = self.case(room)?;
             has_default = has_default || case.node.test.is_none();
             levels = levels.max(case.levels);
-            cases.push(case.node)?;
+            add(&mut cases, case.node)?;
         }
+        cases.shrink_to_fit();
         Ok(part(cases, levels))
     }
 
@@ -130,8 +131,9 @@ impl<'a> Parser<'a> {
         let mut param = None;
         if self.take(Kind::LeftParen) {
             let token = self.token();
-            param = Some(self.bound_or_pattern()?);
-            self.declare(VarDeclKind::Let, token)?;
+            let mut name = self.bound_or_pattern()?;
+            name.ctxt = self.declare(VarDeclKind::Let, token)?;
+            param = Some(name);
             self.expect(Kind::RightParen)?;
         }
         let body = self.block(room, ScopeKind::CatchBody)?;

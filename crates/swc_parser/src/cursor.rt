@@ -5,7 +5,7 @@ use crate::exports::Exports;
 use crate::scopes::Scopes;
 use crate::targets::Targets;
 use std::alloc::Global;
-use swc_ast::{Expr, Span, Stmt};
+use swc_ast::{Expr, Mark, Span, Stmt};
 use swc_lexer::{Construct, Fault, Kind, Token};
 
 /// How many expressions and statements may stand inside one another, the innermost among them.
@@ -74,13 +74,28 @@ pub(crate) fn part<T>(node: T, levels: u32) -> Nested<T> {
     }
 }
 
+/// Adds to a list, which takes room for one item at first, as most lists have no more.
+#[inline(always)]
+pub(crate) fn add<T: Drop>(list: &mut Vec<T>, item: T) -> Result<(), Fault> {
+    if list.is_empty() {
+        list.reserve_exact(1)?;
+    }
+    list.push(item)?;
+    Ok(())
+}
+
 impl<'a> Parser<'a> {
-    pub(crate) fn new(alloc: Global, text: &'a str, tokens: &'a [Token]) -> Parser<'a> {
+    pub(crate) fn new(
+        alloc: Global,
+        text: &'a str,
+        tokens: &'a [Token],
+        mark: Mark,
+    ) -> Result<Parser<'a>, Fault> {
         let mut has_chains = false;
         for token in tokens {
             has_chains = has_chains || token.kind as u8 == Kind::OptionalDot as u8;
         }
-        Parser {
+        Ok(Parser {
             alloc,
             text,
             tokens,
@@ -88,10 +103,10 @@ impl<'a> Parser<'a> {
             refused_in: usize::MAX,
             labels_end: 0,
             has_chains,
-            scopes: Scopes::new(alloc),
+            scopes: Scopes::new(alloc, mark)?,
             targets: Targets::new(alloc),
             exports: Exports::new(alloc),
-        }
+        })
     }
 
     /// An expression round parts that have so many levels.

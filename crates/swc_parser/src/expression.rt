@@ -79,6 +79,7 @@ impl<'a> Parser<'a> {
             levels = levels.max(next.levels);
             exprs.push(Box::into_inner(next.node))?;
         }
+        exprs.shrink_to_fit();
         let span = self.span_from(start);
         self.nest(Expr::Seq(SeqExpr { span, exprs }), levels)
     }

@@ -1,5 +1,5 @@
 //! Functions.
-use crate::cursor::{Nested, Parser, inside, part};
+use crate::cursor::{Nested, Parser, add, inside, part};
 use crate::names::redeclared;
 use crate::scopes::ScopeKind;
 use swc_ast::{
@@ -34,8 +34,9 @@ impl<'a> Parser<'a> {
         if !self.is_at(Kind::LeftParen) {
             let token = self.token();
             self.scopes.open(ScopeKind::Block)?;
-            ident = Some(self.bound()?);
-            self.declare(VarDeclKind::Let, token)?;
+            let mut name = self.bound()?;
+            name.ctxt = self.declare(VarDeclKind::Let, token)?;
+            ident = Some(name);
         }
         let function = self.function(room, start)?;
         if ident.is_some() {
@@ -58,8 +59,8 @@ impl<'a> Parser<'a> {
         let start = self.start();
         self.function_word()?;
         let token = self.token();
-        let ident = self.bound()?;
-        self.declare(VarDeclKind::Let, token)?;
+        let mut ident = self.bound()?;
+        ident.ctxt = self.declare(VarDeclKind::Let, token)?;
         if is_exported {
             self.export(token)?;
         }
@@ -78,8 +79,9 @@ impl<'a> Parser<'a> {
         let mut ident = None;
         if !self.is_at(Kind::LeftParen) {
             let token = self.token();
-            ident = Some(self.bound()?);
-            self.declare(VarDeclKind::Let, token)?;
+            let mut name = self.bound()?;
+            name.ctxt = self.declare(VarDeclKind::Let, token)?;
+            ident = Some(name);
         }
         let function = self.function(room, start)?;
         Ok(FnExpr {
@@ -137,12 +139,13 @@ impl<'a> Parser<'a> {
             }
             let param = self.param(room)?;
             levels = levels.max(param.levels);
-            params.push(param.node)?;
+            add(&mut params, param.node)?;
             if !self.take(Kind::Comma) {
                 break;
             }
         }
         self.expect(Kind::RightParen)?;
+        params.shrink_to_fit();
         Ok(part(params, levels))
     }
 
@@ -152,11 +155,12 @@ impl<'a> Parser<'a> {
         if matches!(token.kind, Kind::Dots) {
             return Err(self.leave_out(Construct::Rest));
         }
-        let left = self.bound_or_pattern()?;
+        let mut left = self.bound_or_pattern()?;
         let text = self.text_of(token);
         if !self.scopes.declare_param(text)? {
             return Err(redeclared(token.start));
         }
+        left.ctxt = self.scopes.declared_context();
         if !self.take(Kind::Equal) {
             return Ok(part(Pat::Ident(left), 0));
         }
@@ -177,7 +181,7 @@ impl<'a> Parser<'a> {
         let params = if self.is_at(Kind::Name) {
             let only = self.param(room)?;
             let mut params = Vec::new(self.alloc);
-            params.push(only.node)?;
+            add(&mut params, only.node)?;
             part(params, only.levels)
         } else {
             self.params(room)?

@@ -69,7 +69,8 @@ impl<'a> Parser<'a> {
     /// Whether an asynchronous function begins at the name here.
     pub(crate) fn is_at_async(&self) -> bool {
         let next = self.next();
-        if !self.is_name(self.token(), "async") || next.on_new_line {
+        let may_begin = matches!(next.kind, Kind::Function | Kind::Name | Kind::LeftParen);
+        if !may_begin || next.on_new_line || !self.is_name(self.token(), "async") {
             return false;
         }
         let place = self.place.saturating_add(1);

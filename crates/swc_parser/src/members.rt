@@ -1,5 +1,5 @@
 //! Members, calls and `new`.
-use crate::cursor::{Nested, Parser, inside, part};
+use crate::cursor::{Nested, Parser, add, inside, part};
 use swc_ast::{CallExpr, ComputedPropName, Expr, MemberExpr, MemberProp, NewExpr};
 use swc_lexer::{Construct, Fault, Kind};
 
@@ -94,12 +94,13 @@ impl<'a> Parser<'a> {
             }
             let arg = self.assignment(inside(room)?)?;
             levels = levels.max(arg.levels);
-            args.push(Box::into_inner(arg.node))?;
+            add(&mut args, Box::into_inner(arg.node))?;
             if !self.take(Kind::Comma) {
                 break;
             }
         }
         self.expect(Kind::RightParen)?;
+        args.shrink_to_fit();
         Ok(part(args, levels))
     }
 

@@ -1,10 +1,9 @@
 //! Imports and exports.
 use crate::cursor::Parser;
-use crate::names::redeclared;
 use swc_ast::{
     Decl, ExportDecl, ExportDefaultDecl, ExportDefaultExpr, ExportNamedSpecifier, Ident, IdentName,
     ImportDecl, ImportDefaultSpecifier, ImportNamedSpecifier, ImportSpecifier,
-    ImportStarAsSpecifier, ModuleDecl, ModuleItem, NamedExport,
+    ImportStarAsSpecifier, ModuleDecl, ModuleItem, NamedExport, VarDeclKind,
 };
 use swc_lexer::{Construct, Fault, Kind};
 
@@ -83,13 +82,9 @@ impl<'a> Parser<'a> {
     /// The name that an import binds, which is passed.
     fn imported_name(&mut self) -> Result<Ident, Fault> {
         let token = self.token();
-        let local = self.bound()?;
-        let text = self.text_of(token);
-        if self.scopes.declare(text)? {
-            Ok(local)
-        } else {
-            Err(redeclared(token.start))
-        }
+        let mut local = self.bound()?;
+        local.ctxt = self.declare(VarDeclKind::Let, token)?;
+        Ok(local)
     }
 
     /// `a`, `b as a`

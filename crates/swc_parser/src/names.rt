@@ -39,11 +39,11 @@ impl<'a> Parser<'a> {
             return Err(self.no_name());
         }
         let text = self.text_of(token);
-        self.scopes.mention(text)?;
+        let ctxt = self.scopes.mention(text)?;
         Ok(Ident {
             span: self.span_from(token.start),
             sym: String::from_str(self.alloc, text)?,
-            ctxt: SyntaxContext::empty(),
+            ctxt,
         })
     }
 
@@ -111,15 +111,19 @@ impl<'a> Parser<'a> {
         found
     }
 
-    /// Declares a name whose token was passed.
-    pub(crate) fn declare(&mut self, kind: VarDeclKind, token: Token) -> Result<(), Fault> {
+    /// Declares a name whose token was passed last, and says which context it has.
+    pub(crate) fn declare(
+        &mut self,
+        kind: VarDeclKind,
+        token: Token,
+    ) -> Result<SyntaxContext, Fault> {
         let name = self.text_of(token);
         let may = match kind {
             VarDeclKind::Var => self.scopes.declare_var(name)?,
             VarDeclKind::Let | VarDeclKind::Const => self.scopes.declare(name)?,
         };
         if may {
-            Ok(())
+            Ok(self.scopes.declared_context())
         } else {
             Err(redeclared(token.start))
         }

@@ -1,5 +1,5 @@
 //! Objects.
-use crate::cursor::{Nested, Parser, inside, part};
+use crate::cursor::{Nested, Parser, add, inside, part};
 use swc_ast::{
     ComputedPropName, Expr, KeyValueProp, MethodProp, ObjectLit, Prop, PropName, PropOrSpread,
     SpreadElement,
@@ -19,12 +19,13 @@ impl<'a> Parser<'a> {
             }
             let prop = self.property(room)?;
             levels = levels.max(prop.levels);
-            props.push(prop.node)?;
+            add(&mut props, prop.node)?;
             if !self.take(Kind::Comma) {
                 break;
             }
         }
         self.expect(Kind::RightBrace)?;
+        props.shrink_to_fit();
         let span = self.span_from(start);
         self.nest(Expr::Object(ObjectLit { span, props }), levels)
     }

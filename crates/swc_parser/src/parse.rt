@@ -17,20 +17,23 @@ pub fn parse_module(alloc: Global, text: &str, mark: Mark) -> Result<Module, Fau
     requires { length text.now < 2 ^ 31 }
 {
     let tokens = tokenize(alloc, text)?;
-    let mut parser = Parser::new(alloc, text, tokens.as_slice());
+    let mut parser = Parser::new(alloc, text, tokens.as_slice(), mark)?;
     parser.scopes.open(ScopeKind::Function)?;
     let mut body = Vec::new(alloc);
+    let mut starts = Vec::new(alloc);
     for _ in 0..tokens.len() {
         if parser.is_at(Kind::End) {
             break;
         }
+        starts.push(parser.scopes.guesses().len())?;
         body.push(parser.module_item(ROOM)?)?;
     }
     parser.expect(Kind::End)?;
     parser.refuse_undeclared_exports()?;
     parser.scopes.close()?;
-    let contexts = parser.scopes.contexts(mark)?;
-    resolve_items(contexts.as_slice(), &mut body);
+    let contexts = parser.scopes.contexts()?;
+    let guesses = parser.scopes.guesses();
+    resolve_items(contexts.as_slice(), guesses, starts.as_slice(), &mut body);
     Ok(Module {
         span: span_of(text),
         body,
@@ -43,7 +46,7 @@ pub fn parse_script(alloc: Global, text: &str, mark: Mark) -> Result<Script, Fau
     requires { length text.now < 2 ^ 31 }
 {
     let tokens = tokenize(alloc, text)?;
-    let mut parser = Parser::new(alloc, text, tokens.as_slice());
+    let mut parser = Parser::new(alloc, text, tokens.as_slice(), mark)?;
     parser.scopes.open(ScopeKind::Function)?;
     let mut body = Vec::new(alloc);
     for _ in 0..tokens.len() {
@@ -54,7 +57,7 @@ pub fn parse_script(alloc: Global, text: &str, mark: Mark) -> Result<Script, Fau
     }
     parser.expect(Kind::End)?;
     parser.scopes.close()?;
-    let contexts = parser.scopes.contexts(mark)?;
+    let contexts = parser.scopes.contexts()?;
     resolve_statements(contexts.as_slice(), &mut body);
     Ok(Script {
         span: span_of(text),
@@ -68,18 +71,29 @@ pub fn parse_expr(alloc: Global, text: &str, mark: Mark) -> Result<Expr, Fault>
     requires { length text.now < 2 ^ 31 }
 {
     let tokens = tokenize(alloc, text)?;
-    let mut parser = Parser::new(alloc, text, tokens.as_slice());
+    let mut parser = Parser::new(alloc, text, tokens.as_slice(), mark)?;
     let mut read = Box::into_inner(parser.expression(ROOM)?.node);
     parser.expect(Kind::End)?;
-    let contexts = parser.scopes.contexts(mark)?;
+    let contexts = parser.scopes.contexts()?;
     Contexts::new(contexts.as_slice()).expr(&mut read);
     Ok(read)
 }
 
-fn resolve_items(contexts: &[SyntaxContext], items: &mut Vec<ModuleItem>) {
-    let mut giver = Contexts::new(contexts);
+/// Gives the names of items their contexts. An item whose names have them already is passed by: those of the i-th item begin at
+/// the i-th start.
+fn resolve_items(
+    contexts: &[SyntaxContext],
+    guesses: &[SyntaxContext],
+    starts: &[usize],
+    items: &mut Vec<ModuleItem>,
+) {
     for i in 0..items.len() {
-        giver.module_item(&mut items[i]);
+        let from = starts.get(i).copied().unwrap_or(0);
+        let to = starts.get(i + 1).copied().unwrap_or(contexts.len());
+        let found = contexts.get(from..to).unwrap_or(&[]);
+        if guesses.get(from..to) != Some(found) {
+            Contexts::new(found).module_item(&mut items[i]);
+        }
     }
 }
 

@@ -1,5 +1,5 @@
 //! Names, literals, templates, arrays and parentheses.
-use crate::cursor::{Nested, Parser, inside, part};
+use crate::cursor::{Nested, Parser, add, inside, part};
 use swc_ast::{
     ArrayLit, Bool, Expr, ExprOrSpread, Lit, Null, Number, Str, ThisExpr, Tpl, TplElement,
 };
@@ -112,17 +112,19 @@ impl<'a> Parser<'a> {
         for _ in self.place..self.tokens.len() {
             let quasi = self.quasi()?;
             let tail = quasi.tail;
-            quasis.push(quasi)?;
+            add(&mut quasis, quasi)?;
             if tail {
                 break;
             }
             let found = self.expression(inside(room)?)?;
             levels = levels.max(found.levels);
-            exprs.push(Box::into_inner(found.node))?;
+            add(&mut exprs, Box::into_inner(found.node))?;
             if !matches!(self.kind(), Kind::TemplateMiddle | Kind::TemplateTail) {
                 return Err(self.refuse());
             }
         }
+        quasis.shrink_to_fit();
+        exprs.shrink_to_fit();
         let node = Tpl {
             span: self.span_from(start),
             quasis,
@@ -185,17 +187,18 @@ impl<'a> Parser<'a> {
                 break;
             }
             if self.take(Kind::Comma) {
-                elems.push(None)?;
+                add(&mut elems, None)?;
                 continue;
             }
             let item = self.item(room)?;
             levels = levels.max(item.levels);
-            elems.push(Some(item.node))?;
+            add(&mut elems, Some(item.node))?;
             if !self.take(Kind::Comma) {
                 break;
             }
         }
         self.expect(Kind::RightBracket)?;
+        elems.shrink_to_fit();
         let span = self.span_from(start);
         self.nest(Expr::Array(ArrayLit { span, elems }), levels)
     }

@@ -59,33 +59,80 @@ fn mark_of(mark: Mark, scope: u32) -> Mark {
     Mark::new(u32::try_from(number).unwrap_or(0)).unwrap_or(mark)
 }
 
+/// How many names that were met lately are kept.
+const RECENT: usize = 1024;
+
+/// Where a name is kept among those that were met lately.
+fn place_of(name: &str) -> usize {
+    let sum = match name.as_bytes() {
+        [first, .., before, last] => {
+            3 * usize::from(*first) + 37 * usize::from(*before) + 5 * usize::from(*last)
+        }
+        [first, last] => 37 * usize::from(*first) + 5 * usize::from(*last),
+        [only] => usize::from(*only),
+        [] => 0,
+    };
+    sum % RECENT
+}
+
 /// The scopes of a text that were opened so far.
 #[derive(Drop)]
 pub(crate) struct Scopes<'a> {
     alloc: Global,
     symbols: HashMap<&'a str, u32>,
+    /// names that were met lately, with their numbers
+    recent: Vec<Option<(&'a str, u32)>>,
     /// what binds each name here
     bindings: Vec<Option<Binding>>,
     scopes: Vec<Scope>,
     /// the scopes that are open
     open: Vec<u32>,
     events: Vec<Event>,
+    /// the mark of what no scope binds
+    mark: Mark,
+    /// the context of each mention, by what was declared before it
+    guesses: Vec<SyntaxContext>,
 }
 
 impl<'a> Scopes<'a> {
-    pub(crate) fn new(alloc: Global) -> Scopes<'a> {
-        Scopes {
+    pub(crate) fn new(alloc: Global, mark: Mark) -> Result<Scopes<'a>, AllocError> {
+        Ok(Scopes {
             alloc,
             symbols: HashMap::new(alloc),
+            recent: vec![in alloc; None; RECENT]?,
             bindings: Vec::new(alloc),
             scopes: Vec::new(alloc),
             open: Vec::new(alloc),
             events: Vec::new(alloc),
-        }
+            mark,
+            guesses: Vec::new(alloc),
+        })
     }
 
     /// The number of a name.
     fn symbol(&mut self, name: &'a str) -> Result<u32, AllocError> {
+        let place = place_of(name);
+        let symbol = match self.recent_symbol(place, name) {
+            Some(symbol) => symbol,
+            None => self.kept_symbol(name)?,
+        };
+        // The text that was met last is the nearest to compare with.
+        if let Some(kept) = self.recent.get_mut(place) {
+            *kept = Some((name, symbol));
+        }
+        Ok(symbol)
+    }
+
+    /// The number of a name that was met lately, if it is kept at this place.
+    fn recent_symbol(&self, place: usize, name: &str) -> Option<u32> {
+        match self.recent.get(place) {
+            Some(Some((recent, symbol))) if *recent == name => Some(*symbol),
+            _ => None,
+        }
+    }
+
+    /// The number of a name that was met before, or else the next one.
+    fn kept_symbol(&mut self, name: &'a str) -> Result<u32, AllocError> {
         if let Some(symbol) = self.symbols.get(name) {
             return Ok(*symbol);
         }
@@ -130,11 +177,39 @@ impl<'a> Scopes<'a> {
         Ok(())
     }
 
-    /// A name that is read, written or declared here.
-    pub(crate) fn mention(&mut self, name: &'a str) -> Result<(), AllocError> {
+    /// A name that is read, written or declared here. The answer is its context by what was declared before it.
+    pub(crate) fn mention(&mut self, name: &'a str) -> Result<SyntaxContext, AllocError> {
         let symbol = self.symbol(name)?;
         self.events.push(Event::Mention(symbol))?;
-        Ok(())
+        let guess = self.context_here(symbol);
+        self.guesses.push(guess)?;
+        Ok(guess)
+    }
+
+    /// The context of a name by what was declared so far.
+    fn context_here(&self, symbol: u32) -> SyntaxContext {
+        let found = match self.binding(symbol) {
+            Some(binding) => mark_of(self.mark, binding.scope),
+            None => self.mark,
+        };
+        SyntaxContext::empty().apply_mark(found)
+    }
+
+    /// The context of the name that was mentioned last, which is declared here.
+    pub(crate) fn declared_context(&mut self) -> SyntaxContext {
+        let context = match self.events.last() {
+            Some(Event::Mention(symbol)) => self.context_here(*symbol),
+            _ => SyntaxContext::empty(),
+        };
+        if let Some(guess) = self.guesses.last_mut() {
+            *guess = context;
+        }
+        context
+    }
+
+    /// The context of each mention so far, by what was declared before it.
+    pub(crate) fn guesses(&self) -> &[SyntaxContext] {
+        self.guesses.as_slice()
     }
 
     /// The innermost scope that is open.
@@ -254,11 +329,12 @@ impl<'a> Scopes<'a> {
     }
 
     /// The context of each mention, in the order of the text. The k-th scope has the k-th context behind the mark.
-    pub(crate) fn contexts(&self, mark: Mark) -> Result<Vec<SyntaxContext>, AllocError> {
+    pub(crate) fn contexts(&self) -> Result<Vec<SyntaxContext>, AllocError> {
+        let mark = self.mark;
         let mut current = vec![in self.alloc; mark; self.symbols.len()]?;
         let mut hidden: Vec<(u32, Mark)> = Vec::new(self.alloc);
         let mut heights: Vec<usize> = Vec::new(self.alloc);
-        let mut contexts = Vec::new(self.alloc);
+        let mut contexts = Vec::with_capacity(self.alloc, self.guesses.len())?;
         for event in &self.events {
             match *event {
                 Event::Open(number) => {

@@ -1,5 +1,5 @@
 //! Statements and declarations.
-use crate::cursor::{Nested, Parser, inside, nest_stmt, part};
+use crate::cursor::{Nested, Parser, add, inside, nest_stmt, part};
 use crate::scopes::ScopeKind;
 use crate::targets::Target;
 use swc_ast::{
@@ -19,8 +19,9 @@ impl<'a> Parser<'a> {
             }
             let next = self.listed(inside(room)?)?;
             levels = levels.max(next.levels);
-            read.push(next.node)?;
+            add(&mut read, next.node)?;
         }
+        read.shrink_to_fit();
         Ok(part(read, levels))
     }
 
@@ -89,11 +90,12 @@ impl<'a> Parser<'a> {
         for _ in self.place..self.tokens.len() {
             let next = self.declarator(room, kind, is_exported)?;
             levels = levels.max(next.levels);
-            decls.push(next.node)?;
+            add(&mut decls, next.node)?;
             if !self.take(Kind::Comma) {
                 break;
             }
         }
+        decls.shrink_to_fit();
         let span = self.span_from(start);
         Ok(part(VarDecl { span, kind, decls }, levels))
     }
@@ -106,8 +108,8 @@ impl<'a> Parser<'a> {
         is_exported: bool,
     ) -> Result<Nested<VarDeclarator>, Fault> {
         let token = self.token();
-        let name = self.bound_or_pattern()?;
-        self.declare(kind, token)?;
+        let mut name = self.bound_or_pattern()?;
+        name.ctxt = self.declare(kind, token)?;
         if is_exported {
             self.export(token)?;
         }
