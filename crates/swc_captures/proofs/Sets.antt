@@ -1,12 +1,10 @@
 -- What a scope declares, as names are put in one by one.
-use Rattle.std.proofs.Common.{◌≡◌, ℕ, Bool, true, false, cond, ◌||◌, ◌&&◌, ◌==◌, List, [], ◌∷◌, ◌++◌, ◌-◌, ◌≤◌, ◌<◌, length, take, drop, get_or, bytes_eq, string_bytes, Option, Some, None, is_some, Vec, String, Global, HashMap, refl, sym, ap, ap₂, ◌∙◌, subst, arith}
-use Rattle.std.proofs.lemmas.Bool.{false≢true}
+use Rattle.std.proofs.Common.{◌≡◌, ℕ, Bool, true, false, cond, ◌||◌, ◌&&◌, ◌==◌, List, [], ◌∷◌, ◌++◌, ◌-◌, ◌≤◌, ◌<◌, length, take, drop, get_or, bytes_eq, string_bytes, Option, Some, None, is_some, Vec, String, Global, HashMap, refl, sym, ap, ap₂, ◌∙◌, arith}
 use Rattle.std.proofs.lemmas.List.{take_all}
 use Rattle.std.proofs.lemmas.List.Folds.{list_any-append}
 use Rattle.std.proofs.lemmas.Map.Text.{hash_map_updates_text}
 use Rattle.std.proofs.lemmas.Slice.Eq.{bytes_eq-Decides}
 use Rattle.std.specs.HashMap.{get_by_text, UpdatesBy}
-use Rattle.std.specs.List.{list_any}
 use Rattle.std.specs.String.{string_eq}
 use mathlib.Core.Path.{fun_ext}
 use Rattle.swc_ast.specs.Tree.{Text, Name, same_name}

@@ -160,7 +160,6 @@ fn first_below<'a>(
 
 /// The same of a node with a scope of its own.
 #[cycle(captures)]
-#[inline(never)]
 fn first_in_scope<'a>(
     reach: Reach,
     kind: Kind<'a>,

@@ -1,5 +1,5 @@
 -- What a fault of a tree says of the tree.
-use Rattle.std.proofs.Common.{◌≡◌, List, [], Option, Some, None, option_map, sym, ap, ◌∙◌, subst, true, false, Bool}
+use Rattle.std.proofs.Common.{◌≡◌, List, [], Option, Some, None, option_map, sym, ap, ◌∙◌, subst, true, Bool}
 use Rattle.swc_ast.specs.Tree.{Name, Tree}
 use Rattle.swc_ast.specs.Valid.{valid}
 use Rattle.swc_captures.specs.Captured.{captured}
