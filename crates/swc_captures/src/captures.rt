@@ -158,7 +158,7 @@ fn first_below<'a>(
     }
 }
 
-/// The same of a node with a scope of its own.
+/// The same of a node that may have a scope of its own: one that binds nothing catches nothing.
 #[cycle(captures)]
 fn first_in_scope<'a>(
     reach: Reach,
@@ -172,6 +172,9 @@ fn first_in_scope<'a>(
 {
     let mut names = Vec::new(alloc);
     add_own_names(&mut names, kind, children)?;
+    if names.is_empty() {
+        return first_inside(reach, children, &*round, &*round, is_valid, alloc);
+    }
     let own = Declared::of(&names, alloc)?;
     let inner = with(&own, &*round, alloc)?;
     first_inside(reach, children, &*round, &inner, is_valid, alloc)
@@ -243,6 +246,10 @@ fn first_in_one_scope<'a>(
     let mut names = Vec::new(alloc);
     add_names(&mut names, half_of(children, Half::Params), Part::Params)?;
     add_body(&mut names, half_of(children, Half::Body))?;
+    if names.is_empty() {
+        let places = Round::of_function(has_key, &*round, &*inner, &*inner);
+        return first_among(children, places, is_valid, alloc);
+    }
     let own = Declared::of(&names, alloc)?;
     let both = with(&own, &*inner, alloc)?;
     let places = Round::of_function(has_key, &*round, &both, &both);

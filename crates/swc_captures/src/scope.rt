@@ -1,5 +1,5 @@
 //! What scopes declare, and what of it is captured.
-ghost use Rattle.std.specs.Prelude.{◌≡◌, ◌∷◌, ◌||◌, IfOk, OnOk, bytes_eq};
+ghost use Rattle.std.specs.Prelude.{◌≡◌, ◌∷◌, ◌||◌, not, if◌then◌else◌, IfOk, OnOk, bytes_eq};
 ghost use Rattle.swc_ast.specs.Tree as tree;
 ghost use Rattle.swc_ast.specs.Tree.{Text, same_name};
 ghost use Rattle.swc_captures.specs.Captured.{scope_of, is_captured};
@@ -45,19 +45,13 @@ impl Declared {
         Ok(())
     }
 
-    /// Whether the scope declares a name of this text.
-    fn has_text(&self, text: &str) -> bool
-        ensures { result ≡ (scope self.now).has_text text.now }
-    {
-        self.contexts.contains_key(text)
-    }
-
-    fn declares(&self, x: Name<'_>) -> bool
-        ensures { result ≡ (scope self.now).binds (name x.entry) }
+    /// Whether the scope captures a name, where it declares one of this text.
+    fn captures(&self, x: Name<'_>) -> Option<bool>
+        ensures { result ≡ (if (scope self.now).has_text (name x.entry).text then Some (not ((scope self.now).binds (name x.entry))) else None) }
     {
         match self.contexts.get(x.text) {
-            None => false,
-            Some(known) => known.contains(&x.context),
+            None => None,
+            Some(known) => Some(!known.contains(&x.context)),
         }
     }
 }
@@ -78,8 +72,8 @@ pub(crate) fn is_captured(round: &[&Declared], x: Name<'_>) -> bool
 {
     let mut left = round;
     while let [scope, rest @ ..] = left {
-        if scope.has_text(x.text) {
-            return !scope.declares(x);
+        if let Some(answer) = scope.captures(x) {
+            return answer;
         }
         left = rest;
     }

@@ -3,55 +3,30 @@ ghost use Rattle.std.specs.Prelude.{◌≡◌, map, false, IsFalse, bytes_eq};
 ghost use Rattle.swc_ast.specs.Operators.{is_among as is_among_texts};
 ghost use Rattle.swc_ast.specs.Valid.{is_letter as is_letter_code, is_part as is_part_code, all_parts as all_part_codes, is_word as is_word_text, is_identifier as is_identifier_text, reserved_words};
 
-/// The reserved words of module code (ECMA-262, 12.7.2).
-static RESERVED: [&str; 46] = [
-    "await",
-    "break",
-    "case",
-    "catch",
-    "class",
-    "const",
-    "continue",
-    "debugger",
-    "default",
-    "delete",
-    "do",
-    "else",
-    "enum",
-    "export",
-    "extends",
-    "false",
-    "finally",
-    "for",
-    "function",
-    "if",
-    "implements",
-    "import",
-    "in",
-    "instanceof",
-    "interface",
-    "let",
-    "new",
-    "null",
-    "package",
-    "private",
-    "protected",
-    "public",
-    "return",
-    "static",
-    "super",
-    "switch",
-    "this",
-    "throw",
-    "true",
-    "try",
-    "typeof",
-    "var",
-    "void",
-    "while",
-    "with",
-    "yield",
+// The reserved words of module code (ECMA-262, 12.7.2), by their lengths in bytes.
+static OF_TWO: [&str; 3] = ["do", "if", "in"];
+
+static OF_THREE: [&str; 5] = ["for", "let", "new", "try", "var"];
+
+static OF_FOUR: [&str; 8] = [
+    "case", "else", "enum", "null", "this", "true", "void", "with",
 ];
+
+static OF_FIVE: [&str; 10] = [
+    "await", "break", "catch", "class", "const", "false", "super", "throw", "while", "yield",
+];
+
+static OF_SIX: [&str; 8] = [
+    "delete", "export", "import", "public", "return", "static", "switch", "typeof",
+];
+
+static OF_SEVEN: [&str; 5] = ["default", "extends", "finally", "package", "private"];
+
+static OF_EIGHT: [&str; 3] = ["continue", "debugger", "function"];
+
+static OF_NINE: [&str; 2] = ["interface", "protected"];
+
+static OF_TEN: [&str; 2] = ["implements", "instanceof"];
 
 /// Whether a text may stand as a name: a word that is not reserved.
 #[tactic(auto, unfolding(swc_ast::specs::Valid::is_identifier))]
@@ -96,10 +71,22 @@ fn all_parts(bytes: &[u8]) -> bool
     true
 }
 
+/// Whether a text is a reserved word: it is compared with those that are as long.
 fn is_reserved(text: &str) -> bool
     ensures { result ≡ is_among_texts text.now reserved_words }
 {
-    is_among(text, &RESERVED)
+    match text.len() {
+        2 => is_among(text, &OF_TWO),
+        3 => is_among(text, &OF_THREE),
+        4 => is_among(text, &OF_FOUR),
+        5 => is_among(text, &OF_FIVE),
+        6 => is_among(text, &OF_SIX),
+        7 => is_among(text, &OF_SEVEN),
+        8 => is_among(text, &OF_EIGHT),
+        9 => is_among(text, &OF_NINE),
+        10 => is_among(text, &OF_TEN),
+        _ => false,
+    }
 }
 
 #[tactic(auto)]

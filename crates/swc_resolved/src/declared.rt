@@ -5,7 +5,7 @@ ghost use Rattle.swc_ast.specs.Parts.{option_ident_name};
 ghost use Rattle.swc_ast.specs.Resolved.{first_names, declared_names, catch_name};
 ghost use Rattle.swc_ast.specs.Scope.{own_vars, declarator_name as label_declarator, param_name as label_param, imported_name as label_imported, option_name};
 ghost use Rattle.swc_ast.specs.Statements.{handler_param};
-ghost use Rattle.swc_ast.specs.Tree.{ε};
+ghost use Rattle.swc_ast.specs.Tree.{Tree, ε};
 ghost use Rattle.swc_visit.specs.Kinds.{kind_label};
 ghost use Rattle.swc_visit.specs.Nodes.{Opens, node_tree, children_forest};
 ghost use Rattle.swc_resolved.specs.Names.{names as tree_names_of};
@@ -69,7 +69,7 @@ fn add_names_of<'a>(names: &mut Vec<Name<'a>>, n: Node<'a>, part: Part) -> Resul
             add_optional(names, own_var(opened.kind))
         }
         Part::Declarations => {
-            let declaration = declaration(n);
+            let declaration = declaration(opened);
             if is_lexical(declaration.kind) {
                 return add_names(names, declaration.children, Part::Declarators);
             }
@@ -113,10 +113,9 @@ pub(crate) fn add_optional<'a>(
 
 /// The declaration that an item of a list is, under `export` too.
 #[tactic(auto, using(crate::proofs::Gathered::exported, crate::proofs::Gathered::export_alone, crate::proofs::Gathered::no_export))]
-fn declaration<'a>(n: Node<'a>) -> Opened<'a>
-    ensures { Opens (declaring (node_tree n.entry)) result }
+fn declaration<'a>(opened: Opened<'a>) -> Opened<'a>
+    ensures { (t : Tree) → Opens t opened.entry → Opens (declaring t) result }
 {
-    let opened = n.open();
     if !is_export(opened.kind) {
         return opened;
     }

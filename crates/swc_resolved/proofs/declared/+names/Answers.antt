@@ -14,11 +14,14 @@ add_names-loop-child-preserved t c =
     )
 
 pub add_names_of-add_names-requires-then-is_lexical : goal.add_names_of-add_names-requires-then-is_lexical
-add_names_of-add_names-requires-then-is_lexical t c = (let h = declaration_falls (node_tree c.args.n) (children_forest c.declaration-declaration.result.children) c.declaration-declaration.ensures.1 in omega (arith, h, c.decreases), tt)
+add_names_of-add_names-requires-then-is_lexical t c =
+    let opened = c.declaration-declaration.ensures (node_tree c.args.n) c.open-opened.ensures in
+    let h = declaration_falls (node_tree c.args.n) (children_forest c.declaration-declaration.result.children) opened.1 in
+    (omega (arith, h, c.decreases), tt)
 
 pub add_names_of-returns-then-is_lexical : goal.add_names_of-returns-then-is_lexical
 add_names_of-returns-then-is_lexical t c =
-    let opened = c.declaration-declaration.ensures in
+    let opened = c.declaration-declaration.ensures (node_tree c.args.n) c.open-opened.ensures in
     subst (λ ys. OnOk c.add_names-then-is_lexical.result (names c.add_names-then-is_lexical.new.names.items ≡ names c.args.names.now.items ++ ys))
     (declarators c.args.part (node_tree c.args.n) (kind_label c.declaration-declaration.result.kind) (children_forest c.declaration-declaration.result.children) c.in-Declarations.is opened.0 opened.1 (sym c.is_lexical.ensures ∙ c.if-is_lexical.true))
     c.add_names-then-is_lexical.ensures
