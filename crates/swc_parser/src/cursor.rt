@@ -27,6 +27,8 @@ pub(crate) struct Parser<'a> {
     pub(crate) labels_end: usize,
     /// whether the text has `?.`
     pub(crate) has_chains: bool,
+    /// the statements that were read of lists that have not ended, those of the innermost list last
+    pub(crate) stmts: Vec<Stmt>,
     pub(crate) scopes: Scopes<'a>,
     pub(crate) targets: Targets<'a>,
     pub(crate) exports: Exports<'a>,
@@ -84,6 +86,13 @@ pub(crate) fn add<T: Drop>(list: &mut Vec<T>, item: T) -> Result<(), Fault> {
     Ok(())
 }
 
+/// Takes the items from this place on off a stack. The list that they make has room for no more.
+#[inline(always)]
+pub(crate) fn take_from<T>(stack: &mut Vec<T>, start: usize) -> Result<Vec<T>, Fault> {
+    let start = start.min(stack.len());
+    Ok(stack.split_off(start)?)
+}
+
 impl<'a> Parser<'a> {
     pub(crate) fn new(
         alloc: Global,
@@ -103,6 +112,7 @@ impl<'a> Parser<'a> {
             refused_in: usize::MAX,
             labels_end: 0,
             has_chains,
+            stmts: Vec::new(alloc),
             scopes: Scopes::new(alloc, mark)?,
             targets: Targets::new(alloc),
             exports: Exports::new(alloc),

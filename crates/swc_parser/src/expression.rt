@@ -37,6 +37,20 @@ fn beyond(op: BinaryOp, strength: u8) -> u8 {
     }
 }
 
+/// Whether a token ends each operand and each assignment before it.
+#[inline(always)]
+fn ends_operand(kind: Kind) -> bool {
+    matches!(
+        kind,
+        Kind::Comma
+            | Kind::Semicolon
+            | Kind::Colon
+            | Kind::RightParen
+            | Kind::RightBracket
+            | Kind::RightBrace
+    )
+}
+
 /// Refuses a name by itself under `delete`.
 fn refuse_name(operand: &Expr) -> Result<(), Fault> {
     match operand {
@@ -54,6 +68,9 @@ impl<'a> Parser<'a> {
     pub(crate) fn expression(&mut self, room: u32) -> Result<Nested<Box<Expr>>, Fault> {
         let start = self.start();
         let first = self.assignment(room)?;
+        if !self.is_at(Kind::Comma) {
+            return Ok(first);
+        }
         self.expression_behind(room, start, first)
     }
 
@@ -92,6 +109,9 @@ impl<'a> Parser<'a> {
         self.refuse_pattern()?;
         let start = self.start();
         let first = self.operand(room)?;
+        if ends_operand(self.kind()) {
+            return Ok(first);
+        }
         self.assignment_behind(room, start, first)
     }
 
@@ -176,6 +196,9 @@ impl<'a> Parser<'a> {
     fn right_operand(&mut self, room: u32, least: u8) -> Result<Nested<Box<Expr>>, Fault> {
         let start = self.start();
         let first = self.operand(inside(room)?)?;
+        if ends_operand(self.kind()) {
+            return Ok(first);
+        }
         self.binary_behind(inside(room)?, start, first, least)
     }
 
@@ -213,6 +236,9 @@ impl<'a> Parser<'a> {
             return Err(self.leave_out(Construct::OptChain));
         }
         let first = self.primary(room)?;
+        if ends_operand(self.kind()) {
+            return Ok(first);
+        }
         self.operand_behind(room, start, first)
     }
 

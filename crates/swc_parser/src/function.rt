@@ -156,8 +156,7 @@ impl<'a> Parser<'a> {
             return Err(self.leave_out(Construct::Rest));
         }
         let mut left = self.bound_or_pattern()?;
-        let text = self.text_of(token);
-        if !self.scopes.declare_param(text)? {
+        if !self.scopes.declare_param()? {
             return Err(redeclared(token.start));
         }
         left.ctxt = self.scopes.declared_context();

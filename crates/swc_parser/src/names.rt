@@ -117,10 +117,9 @@ impl<'a> Parser<'a> {
         kind: VarDeclKind,
         token: Token,
     ) -> Result<SyntaxContext, Fault> {
-        let name = self.text_of(token);
         let may = match kind {
-            VarDeclKind::Var => self.scopes.declare_var(name)?,
-            VarDeclKind::Let | VarDeclKind::Const => self.scopes.declare(name)?,
+            VarDeclKind::Var => self.scopes.declare_var()?,
+            VarDeclKind::Let | VarDeclKind::Const => self.scopes.declare()?,
         };
         if may {
             Ok(self.scopes.declared_context())

@@ -1,6 +1,7 @@
 //! The scopes of a text: what each declares, and where each name is mentioned.
 use std::alloc::{AllocError, AllocFailed, Global};
 use std::collections::HashMap;
+use std::collections::hash_map::Entry;
 use swc_ast::{Mark, SyntaxContext};
 
 /// What happens to scopes, in the order of the text.
@@ -133,13 +134,15 @@ impl<'a> Scopes<'a> {
 
     /// The number of a name that was met before, or else the next one.
     fn kept_symbol(&mut self, name: &'a str) -> Result<u32, AllocError> {
-        if let Some(symbol) = self.symbols.get(name) {
-            return Ok(*symbol);
+        let next = u32::try_from(self.symbols.len()).unwrap_or(0);
+        match self.symbols.entry(name)? {
+            Entry::Occupied(kept) => Ok(*kept.get()),
+            Entry::Vacant(place) => {
+                place.insert(next);
+                self.bindings.push(None)?;
+                Ok(next)
+            }
         }
-        let symbol = u32::try_from(self.symbols.len()).unwrap_or(0);
-        self.symbols.insert(name, symbol)?;
-        self.bindings.push(None)?;
-        Ok(symbol)
     }
 
     /// How many scopes there are.
@@ -195,12 +198,17 @@ impl<'a> Scopes<'a> {
         SyntaxContext::empty().apply_mark(found)
     }
 
+    /// The number of the name that was mentioned last, or one that no name has.
+    fn last_mentioned(&self) -> u32 {
+        match self.events.last() {
+            Some(Event::Mention(symbol)) => *symbol,
+            _ => u32::MAX,
+        }
+    }
+
     /// The context of the name that was mentioned last, which is declared here.
     pub(crate) fn declared_context(&mut self) -> SyntaxContext {
-        let context = match self.events.last() {
-            Some(Event::Mention(symbol)) => self.context_here(*symbol),
-            _ => SyntaxContext::empty(),
-        };
+        let context = self.context_here(self.last_mentioned());
         if let Some(guess) = self.guesses.last_mut() {
             *guess = context;
         }
@@ -256,18 +264,18 @@ impl<'a> Scopes<'a> {
         Ok(())
     }
 
-    /// Declares a name in the innermost scope, and says whether it may.
-    pub(crate) fn declare(&mut self, name: &'a str) -> Result<bool, AllocError> {
-        self.declare_here(name, false)
+    /// Declares the name that was mentioned last in the innermost scope, and says whether it may.
+    pub(crate) fn declare(&mut self) -> Result<bool, AllocError> {
+        self.declare_here(false)
     }
 
-    /// Declares a parameter of the innermost scope, and says whether it may.
-    pub(crate) fn declare_param(&mut self, name: &'a str) -> Result<bool, AllocError> {
-        self.declare_here(name, true)
+    /// Declares the name that was mentioned last as a parameter of the innermost scope, and says whether it may.
+    pub(crate) fn declare_param(&mut self) -> Result<bool, AllocError> {
+        self.declare_here(true)
     }
 
-    fn declare_here(&mut self, name: &'a str, is_var: bool) -> Result<bool, AllocError> {
-        let symbol = self.symbol(name)?;
+    fn declare_here(&mut self, is_var: bool) -> Result<bool, AllocError> {
+        let symbol = self.last_mentioned();
         let scope = self.innermost();
         // A `var` that came since the scope was opened stands inside it.
         if let Some(found) = self.binding(symbol)
@@ -288,9 +296,9 @@ impl<'a> Scopes<'a> {
         Ok(true)
     }
 
-    /// Declares a `var`, and says whether it may.
-    pub(crate) fn declare_var(&mut self, name: &'a str) -> Result<bool, AllocError> {
-        let symbol = self.symbol(name)?;
+    /// Declares the name that was mentioned last by `var`, and says whether it may.
+    pub(crate) fn declare_var(&mut self) -> Result<bool, AllocError> {
+        let symbol = self.last_mentioned();
         let scope = self.function_of(self.innermost());
         let binding = Binding {
             scope,

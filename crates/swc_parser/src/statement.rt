@@ -1,5 +1,5 @@
 //! Statements and declarations.
-use crate::cursor::{Nested, Parser, add, inside, nest_stmt, part};
+use crate::cursor::{Nested, Parser, add, inside, nest_stmt, part, take_from};
 use crate::scopes::ScopeKind;
 use crate::targets::Target;
 use swc_ast::{
@@ -11,7 +11,7 @@ impl<'a> Parser<'a> {
     /// The statements up to a brace or a case.
     #[cycle(parser)]
     pub(crate) fn statements(&mut self, room: u32) -> Result<Nested<Vec<Stmt>>, Fault> {
-        let mut read = Vec::new(self.alloc);
+        let first = self.stmts.len();
         let mut levels = 0;
         for _ in self.place..self.tokens.len() {
             if matches!(self.kind(), Kind::RightBrace | Kind::Case | Kind::Default) {
@@ -19,10 +19,9 @@ impl<'a> Parser<'a> {
             }
             let next = self.listed(inside(room)?)?;
             levels = levels.max(next.levels);
-            add(&mut read, next.node)?;
+            self.stmts.push(next.node)?;
         }
-        read.shrink_to_fit();
-        Ok(part(read, levels))
+        Ok(part(take_from(&mut self.stmts, first)?, levels))
     }
 
     /// A statement of a list: also what a list alone may declare.
