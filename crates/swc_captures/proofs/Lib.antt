@@ -1,3 +1,2 @@
-pub mod Alike
 pub mod First
-pub mod Sets
+pub mod Tables

@@ -1,30 +1,25 @@
 -- Captured names: a scope would bind them in the place of the one that does, if texts alone told names apart.
 use Rattle.std.specs.Prelude.{Bool, true, false, not, if◌then◌else◌, List, [], ◌∷◌, ◌++◌, Option, Some, None}
 use Rattle.swc_ast.specs.Tree as tree
-use Rattle.swc_ast.specs.Tree.{Text, Name, Label, Tree, node, Forest, ε, ◌⊳◌}
+use Rattle.swc_ast.specs.Tree.{Name, Label, Tree, node, Forest, ε, ◌⊳◌}
 use Rattle.swc_ast.specs.Scope.{has_name, param_names}
 use Rattle.swc_ast.specs.Resolved.{declares_text, declared_names, has_default, params_of, body_of}
 use Rattle.swc_resolved.specs.Scopes.{own_names}
-use Rattle.swc_captures.specs.declared.inside.Reach.{Reach}
-use Rattle.swc_captures.specs.declared.inside.Reach.TheVariants as over
+use Rattle.swc_captures.specs.declared.reach.Reach.{Reach}
+use Rattle.swc_captures.specs.declared.reach.Reach.TheVariants as over
 
--- what a scope binds: names, and of which texts
-pub record Scope : Type 0 where
-  pub has_text : Text → Bool
-  pub binds : Name → Bool
-
--- the scope that binds some names
-abbrev pub scope_of : List Name → Scope
-scope_of xs = record { has_text = declares_text xs; binds = λ x. has_name x xs }
-
--- the scopes round a place, the innermost first
+-- the scopes round a place, told by which names they capture: the innermost scope that binds a name of a text doesn't bind
+-- the name itself
 abbrev pub Scopes : Type 0
-Scopes = List Scope
+Scopes = Name → Bool
 
--- the innermost scope that binds a name of this text doesn't bind the name itself
-abbrev pub is_captured : Scopes → Name → Bool
-is_captured [] x = false
-is_captured (s ∷ e) x = if s.has_text x.text then not (s.binds x) else is_captured e x
+-- no scope captures nothing
+abbrev pub no_scope : Scopes
+no_scope = λ x. false
+
+-- one more scope inside, which binds some names
+abbrev pub with_scope : List Name → Scopes → Scopes
+with_scope xs e = λ x. if declares_text xs x.text then not (has_name x xs) else e x
 
 -- the name that a node spells; a function expression's own name and the parameter of a `catch` are left out, since
 -- they stand in scopes that bind nothing else
@@ -48,7 +43,7 @@ spelled _ = None
 -- the name, if any, where it is captured
 abbrev pub if_captured : Scopes → Option Name → List Name
 if_captured e None = []
-if_captured e (Some x) = if is_captured e x then x ∷ [] else []
+if_captured e (Some x) = if e x then x ∷ [] else []
 
 -- which of a node's children its own scope is round
 abbrev pub reach : Label → Reach
@@ -81,13 +76,13 @@ behind_first i = record { first = i.second; second = i.others; others = i.others
 
 -- with one more scope, which binds a function's parameters, or what its body declares, or both
 abbrev pub with_params : Forest → Scopes → Scopes
-with_params cs e = scope_of (param_names (params_of cs)) ∷ e
+with_params cs e = with_scope (param_names (params_of cs)) e
 
 abbrev pub with_body : Forest → Scopes → Scopes
-with_body cs e = scope_of (declared_names (body_of cs)) ∷ e
+with_body cs e = with_scope (declared_names (body_of cs)) e
 
 abbrev pub with_both : Forest → Scopes → Scopes
-with_both cs e = scope_of (param_names (params_of cs) ++ declared_names (body_of cs)) ∷ e
+with_both cs e = with_scope (param_names (params_of cs) ++ declared_names (body_of cs)) e
 
 -- the scopes round a function's parameters, given those round the function
 abbrev pub round_params : Forest → Scopes → Scopes
@@ -112,7 +107,7 @@ within over.Method cs e own = of_function true e (round_params cs own) (round_bo
 
 -- the same by what the node is
 abbrev pub inside : Label → Forest → Scopes → Inside
-inside l cs e = within (reach l) cs e (scope_of (own_names l cs) ∷ e)
+inside l cs e = within (reach l) cs e (with_scope (own_names l cs) e)
 
 abbrev mutual
   -- the captured names of a tree, in the order of the text

@@ -1,19 +1,21 @@
--- The names, scopes, places and faults that borrowed parts stand for.
-use Rattle.std.specs.Prelude.{◌≡◌, ℕ, Bool, true, false, ◌==◌, List, [], map, Option, Some, None, is_some, Vec}
+-- The names, scopes and faults that borrowed parts and tables stand for.
+use Rattle.std.specs.Prelude.{◌≡◌, ℕ, Bool, true, false, not, ◌==◌, if◌then◌else◌, List, [], ◌∷◌, Option, Some, None, bytes_eq}
 use Rattle.std.specs.Borrow.{Bor}
 use Rattle.std.specs.List.{list_any}
-use Rattle.std.specs.HashMap.{get_by_text}
-use Rattle.std.specs.declared.alloc.Global.{Global}
+use Rattle.std.specs.HashMap.{get_by}
 use Rattle.swc_ast.specs.Tree as tree
+use Rattle.swc_ast.specs.Tree.{Text}
 use Rattle.swc_ast.specs.Parts.{ident_name}
 use Rattle.swc_ast.specs.declared.names.Ident.{Ident}
 use Rattle.swc_ast.specs.declared.names.SyntaxContext.{SyntaxContext}
 use Rattle.swc_captures.specs.declared.captures.Fault.{Fault}
 use Rattle.swc_captures.specs.declared.captures.Fault.TheVariants as fault
 use Rattle.swc_captures.specs.declared.captures.Seen.{Seen}
-use Rattle.swc_captures.specs.declared.scope.Declared.{Declared}
-use Rattle.swc_captures.specs.declared.inside.Round.{Round}
+use Rattle.swc_captures.specs.declared.table.Known.{Known}
+use Rattle.swc_captures.specs.declared.table.Outer.{Outer}
+use Rattle.swc_captures.specs.declared.table.Table.{Table}
 use Rattle.swc_captures.specs.Captured as captured
+use Rattle.swc_captures.specs.Captured.{Scopes}
 
 -- the name of an identifier, if any
 abbrev pub told : Option (Bor Ident) → Option tree.Name
@@ -34,23 +36,36 @@ Tells xs is_valid (Some (fault.Captured n)) = captured.first_of xs ≡ Some (ide
 Tells xs is_valid (Some fault.Invalid) = (xs ≡ []) × (is_valid ≡ false)
 Tells xs is_valid None = (xs ≡ []) × (is_valid ≡ true)
 
--- contexts, if any
-abbrev pub items_of : Option (Vec SyntaxContext Global) → List SyntaxContext
-items_of None = []
-items_of (Some v) = v.items
+-- the contexts that are known of a text
+abbrev pub contexts : Known → List SyntaxContext
+contexts k = k.first ∷ k.others.items
+
+abbrev pub contexts_of : Option Known → List SyntaxContext
+contexts_of None = []
+contexts_of (Some k) = contexts k
 
 -- a context is among some
 abbrev pub has_context : ℕ → List SyntaxContext → Bool
 has_context c = list_any (λ k. k.0 == c)
 
--- the scope that binds what is declared
-abbrev pub scope : Declared → captured.Scope
-scope d = record { has_text = λ t. is_some (get_by_text d.contexts t); binds = λ x. has_context x.context (items_of (get_by_text d.contexts x.text)) }
+-- what is known of a text
+abbrev pub known_of : Table → Text → Option Known
+known_of t bs = get_by (λ k. bytes_eq bs k.now) t.known
 
--- the same of each
-abbrev pub scopes : List (Bor Declared) → captured.Scopes
-scopes = map (λ d. scope d.now)
+-- a name is bound
+abbrev pub binds : Table → tree.Name → Bool
+binds t x = has_context x.context (contexts_of (known_of t x.text))
 
--- the scopes round the children of a node
-abbrev pub inside : Round → captured.Inside
-inside r = record { first = scopes r.first.now; second = scopes r.second.now; others = scopes r.others.now }
+-- names of a text are bound, and this name isn't
+abbrev pub lacks : Option Known → tree.Name → Bool
+lacks None x = false
+lacks (Some k) x = not (has_context x.context (contexts k))
+
+-- the scopes round the place that a table tells of
+abbrev pub captures : Table → Scopes
+captures t = λ x. lacks (known_of t x.text) x
+
+-- the same after what texts stood for is put back, from the last of them on
+abbrev pub restored : List Outer → Scopes → Scopes
+restored [] e = e
+restored (o ∷ os) e = λ x. if bytes_eq o.text.now x.text then lacks o.known x else restored os e x

@@ -1,16 +1,18 @@
 //! The first captured name of a tree, in the order of the text, and whether the tree is valid.
-ghost use Rattle.std.specs.Prelude.{◌≡◌, ◌∷◌, ◌&&◌, Bool, [], List, IfOk};
+ghost use Rattle.std.specs.Prelude.{◌≡◌, ◌&&◌, Bool, true, false, List, IfOk};
 ghost use Rattle.swc_ast.specs.Modules.{module_tree, script_tree};
+ghost use Rattle.swc_ast.specs.Resolved.{declared_names};
 ghost use Rattle.swc_ast.specs.Tree.{Name as TreeName};
 ghost use Rattle.swc_ast.specs.Valid.{good_names, good_shape, valid, valid_all};
-ghost use Rattle.swc_captures.specs.Captured.{spelled as label_spelled, scope_of, if_captured, captured, captured_in, inside as label_inside, within, of_function, round_params, round_body, with_both, with_params, with_body, first_of, seen};
-ghost use Rattle.swc_captures.specs.Views.{told, sight, Tells, scopes, inside};
+ghost use Rattle.swc_captures.specs.Captured.{spelled as label_spelled, no_scope, with_scope, if_captured, captured, captured_in, each, inside as label_inside, within, of_function, round_params, round_body, first_of, seen};
+ghost use Rattle.swc_captures.specs.Views.{told, sight, Tells, captures};
+ghost use Rattle.swc_resolved.specs.Names.{names as names_of};
 ghost use Rattle.swc_resolved.specs.Scopes.{own_names};
 ghost use Rattle.swc_visit.specs.Kinds.{kind_label};
 ghost use Rattle.swc_visit.specs.Nodes.{node_tree, children_forest};
 
-use crate::inside::{Reach, Round};
-use crate::scope::{Declared, is_captured, with};
+use crate::reach::Reach;
+use crate::table::Table;
 use std::alloc::{AllocError, Global};
 use swc_ast::{Ident, Module, Script};
 use swc_debug::{has_good_names, has_good_shape};
@@ -36,20 +38,19 @@ pub(crate) struct Seen<'a> {
 /// Why no text stands for a module: the first name, in the order of the text, that its text would
 /// not stand for, since the innermost scope that binds a name of this text doesn't bind the name
 /// itself; else that the module isn't valid. Where one scope binds two names of one text, neither
-/// is captured there. The time is the size of the module, and the number of names times how deep
-/// scopes nest round them. Fails where memory is refused.
+/// is captured there. Fails where memory is refused.
 pub fn first_fault(alloc: Global, m: &Module) -> Result<Option<Fault<'_>>, AllocError>
-    ensures { IfOk result (Tells (captured [] (module_tree m.now)) (valid (module_tree m.now))) }
+    ensures { IfOk result (Tells (captured no_scope (module_tree m.now)) (valid (module_tree m.now))) }
 {
-    let seen = first_in(Node::Module(m), &[], true, alloc)?;
+    let seen = first_in(Node::Module(m), &mut Table::new(alloc), true, alloc)?;
     Ok(fault_of(seen))
 }
 
 /// The same of a script.
 pub fn first_fault_of_script(alloc: Global, s: &Script) -> Result<Option<Fault<'_>>, AllocError>
-    ensures { IfOk result (Tells (captured [] (script_tree s.now)) (valid (script_tree s.now))) }
+    ensures { IfOk result (Tells (captured no_scope (script_tree s.now)) (valid (script_tree s.now))) }
 {
-    let seen = first_in(Node::Script(s), &[], true, alloc)?;
+    let seen = first_in(Node::Script(s), &mut Table::new(alloc), true, alloc)?;
     Ok(fault_of(seen))
 }
 
@@ -70,19 +71,21 @@ fn fault_of<'a>(s: Seen<'a>) -> Option<Fault<'a>>
     }
 }
 
-/// The first captured name of a node, and whether the node is valid where those in front are.
+/// The first captured name of a node, and whether the node is valid where those in front are. Where none is captured, the table
+/// is as it was.
 #[cycle(captures)]
 #[tactic(auto, using(crate::proofs::First::children_fall, crate::proofs::First::found_here, crate::proofs::First::found_below))]
 fn first_in<'a>(
     n: Node<'a>,
-    round: &[&Declared],
+    table: &mut Table<'a>,
     is_valid: bool,
     alloc: Global,
 ) -> Result<Seen<'a>, AllocError>
-    ensures { IfOk result (λ s. sight s ≡ seen (captured (scopes round.now) (node_tree n.entry)) (is_valid && valid (node_tree n.entry))) }
+    ensures sight { IfOk result (λ s. sight s ≡ seen (captured (captures table.old) (node_tree n.entry)) (is_valid && valid (node_tree n.entry))) }
+    ensures kept { IfOk result (λ s. s.captured ≡ None → captures table.new ≡ captures table.old) }
 {
     let opened = n.open();
-    let own = own_captured(opened.kind, &*round);
+    let own = own_captured(opened.kind, &*table);
     if own.is_some() {
         return Ok(Seen {
             captured: own,
@@ -90,7 +93,7 @@ fn first_in<'a>(
         });
     }
     let is_good = stays_valid(is_valid, opened.kind, opened.children);
-    first_below(opened.kind, opened.children, &*round, is_good, alloc)
+    first_below(opened.kind, opened.children, table, is_good, alloc)
 }
 
 /// Whether nodes stay valid with one more, its children aside.
@@ -101,13 +104,13 @@ fn stays_valid(is_valid: bool, kind: Kind<'_>, children: Children<'_>) -> bool
 }
 
 /// The name that a node itself spells, where it is captured.
-fn own_captured<'a>(kind: Kind<'a>, round: &[&Declared]) -> Option<&'a Ident>
-    ensures { told result ≡ first_of (if_captured (scopes round.now) (label_spelled (kind_label kind.entry))) }
+fn own_captured<'a>(kind: Kind<'a>, table: &Table<'a>) -> Option<&'a Ident>
+    ensures { told result ≡ first_of (if_captured (captures table.now) (label_spelled (kind_label kind.entry))) }
 {
     match spelled(kind) {
         None => None,
         Some(name) => {
-            if is_captured(round, Name::of(name)) {
+            if table.captures(Name::of(name)) {
                 Some(name)
             } else {
                 None
@@ -145,177 +148,266 @@ fn spelled<'a>(kind: Kind<'a>) -> Option<&'a Ident>
 fn first_below<'a>(
     kind: Kind<'a>,
     children: Children<'a>,
-    round: &[&Declared],
+    table: &mut Table<'a>,
     is_valid: bool,
     alloc: Global,
 ) -> Result<Seen<'a>, AllocError>
-    ensures { IfOk result (λ s. sight s ≡ seen (captured_in (label_inside (kind_label kind.entry) (children_forest children.entry) (scopes round.now)) (children_forest children.entry)) (is_valid && valid_all (children_forest children.entry))) }
+    ensures sight { IfOk result (λ s. sight s ≡ seen (captured_in (label_inside (kind_label kind.entry) (children_forest children.entry) (captures table.old)) (children_forest children.entry)) (is_valid && valid_all (children_forest children.entry))) }
+    ensures kept { IfOk result (λ s. s.captured ≡ None → captures table.new ≡ captures table.old) }
 {
     let reach = Reach::of(kind);
     match reach {
-        Reach::Nothing => first_among(children, Round::each(&*round), is_valid, alloc),
-        _ => first_in_scope(reach, kind, children, &*round, is_valid, alloc),
+        Reach::Nothing => first_among(children, table, is_valid, alloc),
+        _ => first_in_scope(reach, kind, children, table, is_valid, alloc),
     }
 }
 
-/// The same of a node that may have a scope of its own: one that binds nothing catches nothing.
+/// The same of a node that has a scope of its own, that of a function's parameters and body aside.
 #[cycle(captures)]
 fn first_in_scope<'a>(
     reach: Reach,
     kind: Kind<'a>,
     children: Children<'a>,
-    round: &[&Declared],
+    table: &mut Table<'a>,
     is_valid: bool,
     alloc: Global,
 ) -> Result<Seen<'a>, AllocError>
-    ensures { IfOk result (λ s. sight s ≡ seen (captured_in (within reach (children_forest children.entry) (scopes round.now) (scope_of (own_names (kind_label kind.entry) (children_forest children.entry)) ∷ scopes round.now)) (children_forest children.entry)) (is_valid && valid_all (children_forest children.entry))) }
+    ensures sight { IfOk result (λ s. sight s ≡ seen (captured_in (within reach (children_forest children.entry) (captures table.old) (with_scope (own_names (kind_label kind.entry) (children_forest children.entry)) (captures table.old))) (children_forest children.entry)) (is_valid && valid_all (children_forest children.entry))) }
+    ensures kept { IfOk result (λ s. s.captured ≡ None → captures table.new ≡ captures table.old) }
 {
     let mut names = Vec::new(alloc);
     add_own_names(&mut names, kind, children)?;
-    if names.is_empty() {
-        return first_inside(reach, children, &*round, &*round, is_valid, alloc);
+    match reach {
+        Reach::Nothing => first_among(children, table, is_valid, alloc),
+        Reach::Each => first_inside(&names, children, table, is_valid, alloc),
+        Reach::BehindFirst => first_behind(&names, children, table, is_valid, alloc),
+        Reach::Second => first_in_second(&names, children, table, is_valid, alloc),
+        Reach::Function => first_in_named(&names, children, children, table, is_valid, alloc),
+        Reach::Method => first_in_method(&names, children, table, is_valid, alloc),
     }
-    let own = Declared::of(&names, alloc)?;
-    let inner = with(&own, &*round, alloc)?;
-    first_inside(reach, children, &*round, &inner, is_valid, alloc)
 }
 
-/// The same, given the scopes round the node and those with its own scope.
+/// The same of nodes in a row, inside a scope that binds some names.
 #[cycle(captures)]
 fn first_inside<'a>(
-    reach: Reach,
+    names: &[Name<'a>],
     children: Children<'a>,
-    round: &[&Declared],
-    inner: &[&Declared],
+    table: &mut Table<'a>,
     is_valid: bool,
     alloc: Global,
 ) -> Result<Seen<'a>, AllocError>
-    ensures { IfOk result (λ s. sight s ≡ seen (captured_in (within reach (children_forest children.entry) (scopes round.now) (scopes inner.now)) (children_forest children.entry)) (is_valid && valid_all (children_forest children.entry))) }
+    ensures sight { IfOk result (λ s. sight s ≡ seen (captured_in (each (with_scope (names_of names.now) (captures table.old))) (children_forest children.entry)) (is_valid && valid_all (children_forest children.entry))) }
+    ensures kept { IfOk result (λ s. s.captured ≡ None → captures table.new ≡ captures table.old) }
 {
-    match reach {
-        Reach::Nothing => first_among(children, Round::each(&*round), is_valid, alloc),
-        Reach::Each => first_among(children, Round::each(&*inner), is_valid, alloc),
-        Reach::BehindFirst => first_among(
-            children,
-            Round::of(&*round, &*inner, &*inner),
+    let outer = table.open(names, alloc)?;
+    let found = first_among(children, &mut *table, is_valid, alloc)?;
+    if found.captured.is_none() {
+        table.close(outer)?;
+    }
+    Ok(found)
+}
+
+/// The same, where the scope is round all nodes but the first.
+#[cycle(captures)]
+#[tactic(auto, using(crate::proofs::First::first_falls, crate::proofs::First::rest_falls, crate::proofs::First::found_among, crate::proofs::First::goes_on, crate::proofs::First::ends))]
+fn first_behind<'a>(
+    names: &[Name<'a>],
+    children: Children<'a>,
+    table: &mut Table<'a>,
+    is_valid: bool,
+    alloc: Global,
+) -> Result<Seen<'a>, AllocError>
+    ensures sight { IfOk result (λ s. sight s ≡ seen (captured_in (record { first = captures table.old; second = (with_scope (names_of names.now) (captures table.old)); others = (with_scope (names_of names.now) (captures table.old)) }) (children_forest children.entry)) (is_valid && valid_all (children_forest children.entry))) }
+    ensures kept { IfOk result (λ s. s.captured ≡ None → captures table.new ≡ captures table.old) }
+{
+    match children.next() {
+        None => Ok(Seen {
+            captured: None,
             is_valid,
-            alloc,
-        ),
-        Reach::Second => first_among(
-            children,
-            Round::of(&*round, &*inner, &*round),
-            is_valid,
-            alloc,
-        ),
-        Reach::Function => first_in_function(false, children, &*round, &*inner, is_valid, alloc),
-        Reach::Method => first_in_function(true, children, &*round, &*inner, is_valid, alloc),
+        }),
+        Some((first, rest)) => {
+            let found = first_in(first, &mut *table, is_valid, alloc)?;
+            if found.captured.is_some() {
+                return Ok(found);
+            }
+            first_inside(names, rest, table, found.is_valid, alloc)
+        }
     }
 }
 
-/// The same of a function, which may have a key in front.
+/// The same, where the scope is round the second node alone.
+#[cycle(captures)]
+#[tactic(auto, using(crate::proofs::First::first_falls, crate::proofs::First::rest_falls, crate::proofs::First::found_among, crate::proofs::First::goes_on, crate::proofs::First::ends))]
+fn first_in_second<'a>(
+    names: &[Name<'a>],
+    children: Children<'a>,
+    table: &mut Table<'a>,
+    is_valid: bool,
+    alloc: Global,
+) -> Result<Seen<'a>, AllocError>
+    ensures sight { IfOk result (λ s. sight s ≡ seen (captured_in (record { first = captures table.old; second = (with_scope (names_of names.now) (captures table.old)); others = captures table.old }) (children_forest children.entry)) (is_valid && valid_all (children_forest children.entry))) }
+    ensures kept { IfOk result (λ s. s.captured ≡ None → captures table.new ≡ captures table.old) }
+{
+    match children.next() {
+        None => Ok(Seen {
+            captured: None,
+            is_valid,
+        }),
+        Some((first, rest)) => {
+            let found = first_in(first, &mut *table, is_valid, alloc)?;
+            if found.captured.is_some() {
+                return Ok(found);
+            }
+            first_in_front(names, rest, table, found.is_valid, alloc)
+        }
+    }
+}
+
+/// The same, where the scope is round the first node alone.
+#[cycle(captures)]
+#[tactic(auto, using(crate::proofs::First::first_falls, crate::proofs::First::rest_falls, crate::proofs::First::alone_falls, crate::proofs::First::found_among, crate::proofs::First::goes_on, crate::proofs::First::ends))]
+fn first_in_front<'a>(
+    names: &[Name<'a>],
+    children: Children<'a>,
+    table: &mut Table<'a>,
+    is_valid: bool,
+    alloc: Global,
+) -> Result<Seen<'a>, AllocError>
+    ensures sight { IfOk result (λ s. sight s ≡ seen (captured_in (record { first = (with_scope (names_of names.now) (captures table.old)); second = captures table.old; others = captures table.old }) (children_forest children.entry)) (is_valid && valid_all (children_forest children.entry))) }
+    ensures kept { IfOk result (λ s. s.captured ≡ None → captures table.new ≡ captures table.old) }
+{
+    match children.next() {
+        None => Ok(Seen {
+            captured: None,
+            is_valid,
+        }),
+        Some((first, rest)) => {
+            let alone = Children::One(first);
+            let found = first_inside(names, alone, &mut *table, is_valid, alloc)?;
+            if found.captured.is_some() {
+                return Ok(found);
+            }
+            first_among(rest, table, found.is_valid, alloc)
+        }
+    }
+}
+
+/// The same of the parameters and the body of a function, among all of its parts, inside the scope of its own name, if it has one.
+#[cycle(captures)]
+fn first_in_named<'a>(
+    names: &[Name<'a>],
+    whole: Children<'a>,
+    children: Children<'a>,
+    table: &mut Table<'a>,
+    is_valid: bool,
+    alloc: Global,
+) -> Result<Seen<'a>, AllocError>
+    ensures sight { IfOk result (λ s. sight s ≡ seen (captured_in (of_function false (captures table.old) (round_params (children_forest whole.entry) (with_scope (names_of names.now) (captures table.old))) (round_body (children_forest whole.entry) (with_scope (names_of names.now) (captures table.old)))) (children_forest children.entry)) (is_valid && valid_all (children_forest children.entry))) }
+    ensures kept { IfOk result (λ s. s.captured ≡ None → captures table.new ≡ captures table.old) }
+{
+    let outer = table.open(names, alloc)?;
+    let found = first_in_function(whole, children, &mut *table, is_valid, alloc)?;
+    if found.captured.is_none() {
+        table.close(outer)?;
+    }
+    Ok(found)
+}
+
+/// The same of a method: its key stands outside.
+#[cycle(captures)]
+#[tactic(auto, using(crate::proofs::First::first_falls, crate::proofs::First::rest_falls, crate::proofs::First::found_among, crate::proofs::First::goes_on, crate::proofs::First::ends))]
+fn first_in_method<'a>(
+    names: &[Name<'a>],
+    children: Children<'a>,
+    table: &mut Table<'a>,
+    is_valid: bool,
+    alloc: Global,
+) -> Result<Seen<'a>, AllocError>
+    ensures sight { IfOk result (λ s. sight s ≡ seen (captured_in (of_function true (captures table.old) (round_params (children_forest children.entry) (with_scope (names_of names.now) (captures table.old))) (round_body (children_forest children.entry) (with_scope (names_of names.now) (captures table.old)))) (children_forest children.entry)) (is_valid && valid_all (children_forest children.entry))) }
+    ensures kept { IfOk result (λ s. s.captured ≡ None → captures table.new ≡ captures table.old) }
+{
+    match children.next() {
+        None => Ok(Seen {
+            captured: None,
+            is_valid,
+        }),
+        Some((key, rest)) => {
+            let found = first_in(key, &mut *table, is_valid, alloc)?;
+            if found.captured.is_some() {
+                return Ok(found);
+            }
+            first_in_named(names, children, rest, table, found.is_valid, alloc)
+        }
+    }
+}
+
+/// The same of the parameters and the body of a function, among all of its parts: they are one scope, but beside a default the
+/// body has one of its own, inside that of the parameters (10.2.11).
 #[cycle(captures)]
 fn first_in_function<'a>(
-    has_key: bool,
+    whole: Children<'a>,
     children: Children<'a>,
-    round: &[&Declared],
-    inner: &[&Declared],
+    table: &mut Table<'a>,
     is_valid: bool,
     alloc: Global,
 ) -> Result<Seen<'a>, AllocError>
-    ensures { IfOk result (λ s. sight s ≡ seen (captured_in (of_function has_key (scopes round.now) (round_params (children_forest children.entry) (scopes inner.now)) (round_body (children_forest children.entry) (scopes inner.now))) (children_forest children.entry)) (is_valid && valid_all (children_forest children.entry))) }
+    ensures sight { IfOk result (λ s. sight s ≡ seen (captured_in (of_function false (captures table.old) (round_params (children_forest whole.entry) (captures table.old)) (round_body (children_forest whole.entry) (captures table.old))) (children_forest children.entry)) (is_valid && valid_all (children_forest children.entry))) }
+    ensures kept { IfOk result (λ s. s.captured ≡ None → captures table.new ≡ captures table.old) }
 {
-    if has_default(half_of(children, Half::Params)) {
-        first_beside_default(has_key, children, &*round, &*inner, is_valid, alloc)
-    } else {
-        first_in_one_scope(has_key, children, &*round, &*inner, is_valid, alloc)
-    }
-}
-
-/// The same where parameters and body are one scope.
-#[cycle(captures)]
-fn first_in_one_scope<'a>(
-    has_key: bool,
-    children: Children<'a>,
-    round: &[&Declared],
-    inner: &[&Declared],
-    is_valid: bool,
-    alloc: Global,
-) -> Result<Seen<'a>, AllocError>
-    ensures { IfOk result (λ s. sight s ≡ seen (captured_in (of_function has_key (scopes round.now) (with_both (children_forest children.entry) (scopes inner.now)) (with_both (children_forest children.entry) (scopes inner.now))) (children_forest children.entry)) (is_valid && valid_all (children_forest children.entry))) }
-{
+    let params = half_of(whole, Half::Params);
+    let body = half_of(whole, Half::Body);
     let mut names = Vec::new(alloc);
-    add_names(&mut names, half_of(children, Half::Params), Part::Params)?;
-    add_body(&mut names, half_of(children, Half::Body))?;
-    if names.is_empty() {
-        let places = Round::of_function(has_key, &*round, &*inner, &*inner);
-        return first_among(children, places, is_valid, alloc);
+    add_names(&mut names, params, Part::Params)?;
+    if has_default(params) {
+        return first_beside_default(&names, body, children, table, is_valid, alloc);
     }
-    let own = Declared::of(&names, alloc)?;
-    let both = with(&own, &*inner, alloc)?;
-    let places = Round::of_function(has_key, &*round, &both, &both);
-    first_among(children, places, is_valid, alloc)
+    add_body(&mut names, body)?;
+    first_inside(&names, children, table, is_valid, alloc)
 }
 
-/// The same where the body has a scope of its own, inside that of the parameters.
+/// The same beside a default, given the names of the parameters and what stands in the body.
 #[cycle(captures)]
 fn first_beside_default<'a>(
-    has_key: bool,
+    names: &[Name<'a>],
+    body: Children<'a>,
     children: Children<'a>,
-    round: &[&Declared],
-    inner: &[&Declared],
+    table: &mut Table<'a>,
     is_valid: bool,
     alloc: Global,
 ) -> Result<Seen<'a>, AllocError>
-    ensures { IfOk result (λ s. sight s ≡ seen (captured_in (of_function has_key (scopes round.now) (with_params (children_forest children.entry) (scopes inner.now)) (with_body (children_forest children.entry) (with_params (children_forest children.entry) (scopes inner.now)))) (children_forest children.entry)) (is_valid && valid_all (children_forest children.entry))) }
+    ensures sight { IfOk result (λ s. sight s ≡ seen (captured_in (record { first = (with_scope (names_of names.now) (captures table.old)); second = with_scope (declared_names (children_forest body.entry)) (with_scope (names_of names.now) (captures table.old)); others = with_scope (declared_names (children_forest body.entry)) (with_scope (names_of names.now) (captures table.old)) }) (children_forest children.entry)) (is_valid && valid_all (children_forest children.entry))) }
+    ensures kept { IfOk result (λ s. s.captured ≡ None → captures table.new ≡ captures table.old) }
 {
-    let mut names = Vec::new(alloc);
-    add_names(&mut names, half_of(children, Half::Params), Part::Params)?;
-    let own = Declared::of(&names, alloc)?;
-    let params = with(&own, &*inner, alloc)?;
-    first_round_body(has_key, children, &*round, &params, is_valid, alloc)
+    let mut inner = Vec::new(alloc);
+    add_body(&mut inner, body)?;
+    let outer = table.open(names, alloc)?;
+    let found = first_behind(&inner, children, &mut *table, is_valid, alloc)?;
+    if found.captured.is_none() {
+        table.close(outer)?;
+    }
+    Ok(found)
 }
 
-/// The same, given the scopes round the parameters.
-#[cycle(captures)]
-fn first_round_body<'a>(
-    has_key: bool,
-    children: Children<'a>,
-    round: &[&Declared],
-    params: &[&Declared],
-    is_valid: bool,
-    alloc: Global,
-) -> Result<Seen<'a>, AllocError>
-    ensures { IfOk result (λ s. sight s ≡ seen (captured_in (of_function has_key (scopes round.now) (scopes params.now) (with_body (children_forest children.entry) (scopes params.now))) (children_forest children.entry)) (is_valid && valid_all (children_forest children.entry))) }
-{
-    let mut names = Vec::new(alloc);
-    add_body(&mut names, half_of(children, Half::Body))?;
-    let own = Declared::of(&names, alloc)?;
-    let body = with(&own, &*params, alloc)?;
-    let places = Round::of_function(has_key, &*round, &*params, &body);
-    first_among(children, places, is_valid, alloc)
-}
-
-/// The same among nodes in a row.
+/// The same of nodes in a row.
 #[cycle(captures)]
 #[tactic(auto, using(swc_visit::proofs::Caps::rest_falls, swc_resolved::proofs::Sizes::rest_within, crate::proofs::First::child_falls, crate::proofs::First::found_among, crate::proofs::First::goes_on, crate::proofs::First::ends))]
 fn first_among<'a>(
     children: Children<'a>,
-    places: Round<'_>,
+    table: &mut Table<'a>,
     is_valid: bool,
     alloc: Global,
 ) -> Result<Seen<'a>, AllocError>
-    ensures { IfOk result (λ s. sight s ≡ seen (captured_in (inside places.entry) (children_forest children.entry)) (is_valid && valid_all (children_forest children.entry))) }
+    ensures sight { IfOk result (λ s. sight s ≡ seen (captured_in (each (captures table.old)) (children_forest children.entry)) (is_valid && valid_all (children_forest children.entry))) }
+    ensures kept { IfOk result (λ s. s.captured ≡ None → captures table.new ≡ captures table.old) }
 {
     let mut left = children;
-    let mut around = places;
     let mut so_far = is_valid;
     while let Some((child, rest)) = left.next() {
-        let found = first_in(child, around.first, so_far, alloc)?;
+        let found = first_in(child, &mut *table, so_far, alloc)?;
         if found.captured.is_some() {
             return Ok(found);
         }
         so_far = found.is_valid;
-        around = around.behind_first();
         left = rest;
     }
     Ok(Seen {

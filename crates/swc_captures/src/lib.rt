@@ -3,7 +3,7 @@
 #![tactic(auto)]
 
 mod captures;
-mod inside;
-mod scope;
+mod reach;
+mod table;
 
 pub use captures::{Fault, first_fault, first_fault_of_script};

@@ -3,7 +3,7 @@ use Rattle.std.specs.Prelude.{◌≡◌, false, [], Some, option_map, string_byt
 use Rattle.swc_ast.specs.Parts.{ident_name}
 use Rattle.swc_ast.specs.Tree.{Tree}
 use Rattle.swc_ast.specs.Valid.{valid}
-use Rattle.swc_captures.specs.Captured.{captured, first_of}
+use Rattle.swc_captures.specs.Captured.{no_scope, captured, first_of}
 use Rattle.swc_captures.specs.declared.captures.Fault.{Fault}
 use Rattle.swc_captures.specs.declared.captures.Fault.TheVariants as fault
 use Rattle.swc_text.specs.declared.error.PrintError.{PrintError}
@@ -18,6 +18,6 @@ Says f e = ⊥
 
 -- the first captured name is told; a tree without one is told to be invalid if it is
 abbrev pub Refuses : Tree → PrintError → Type 0
-Refuses t (print.Captured name) = option_map (λ x. x.text) (first_of (captured [] t)) ≡ Some (string_bytes name)
-Refuses t print.Invalid = (captured [] t ≡ []) × (valid t ≡ false)
+Refuses t (print.Captured name) = option_map (λ x. x.text) (first_of (captured no_scope t)) ≡ Some (string_bytes name)
+Refuses t print.Invalid = (captured no_scope t ≡ []) × (valid t ≡ false)
 Refuses t print.OutOfMemory = ⊤

@@ -2,7 +2,7 @@
 ghost use Rattle.std.specs.Prelude.{◌≡◌, [], true, false, IfOk, IfErr};
 ghost use Rattle.swc_ast.specs.Modules.{module_tree, script_tree};
 ghost use Rattle.swc_ast.specs.Valid.{valid};
-ghost use Rattle.swc_captures.specs.Captured.{captured};
+ghost use Rattle.swc_captures.specs.Captured.{no_scope, captured};
 ghost use Rattle.swc_text.specs.Refused.{Says, Refuses};
 
 use crate::error::PrintError;
@@ -14,7 +14,7 @@ use swc_captures::{Fault, first_fault, first_fault_of_script};
 /// that another scope than its own would bind; else `Invalid` says that the module isn't valid.
 #[tactic(auto, using(crate::proofs::Refused::uncaptured, crate::proofs::Refused::sound, crate::proofs::Refused::refused))]
 pub fn print(alloc: Global, m: &Module) -> Result<String, PrintError>
-    ensures uncaptured { IfOk result (λ _. captured [] (module_tree m.now) ≡ []) }
+    ensures uncaptured { IfOk result (λ _. captured no_scope (module_tree m.now) ≡ []) }
     ensures valid { IfOk result (λ _. valid (module_tree m.now) ≡ true) }
     ensures refused { IfErr result (Refuses (module_tree m.now)) }
 {
@@ -27,7 +27,7 @@ pub fn print(alloc: Global, m: &Module) -> Result<String, PrintError>
 /// The text of a script, as `print` of a module.
 #[tactic(auto, using(crate::proofs::Refused::uncaptured, crate::proofs::Refused::sound, crate::proofs::Refused::refused))]
 pub fn print_script(alloc: Global, s: &Script) -> Result<String, PrintError>
-    ensures uncaptured { IfOk result (λ _. captured [] (script_tree s.now) ≡ []) }
+    ensures uncaptured { IfOk result (λ _. captured no_scope (script_tree s.now) ≡ []) }
     ensures valid { IfOk result (λ _. valid (script_tree s.now) ≡ true) }
     ensures refused { IfErr result (Refuses (script_tree s.now)) }
 {

@@ -1,35 +1,36 @@
-use Rattle.std.proofs.Common.{◌≡◌, ◌&&◌, ◌++◌, IfOk, sym, ap, subst, ◌∙◌}
-use Rattle.swc_ast.specs.Resolved.{declared_names, params_of, body_of}
-use Rattle.swc_ast.specs.Scope.{param_names}
-use Rattle.swc_ast.specs.Valid.{valid_all}
-use Rattle.swc_resolved.specs.Names.{names}
-use Rattle.swc_resolved.specs.Scopes.{own_names}
+use Rattle.std.proofs.Common.{◌≡◌, ◌&&◌, IfOk, refl, sym, ap, subst, ◌∙◌, arith}
 use Rattle.swc_visit.specs.Kinds.{kind_label}
-use Rattle.swc_visit.specs.Nodes.{node_tree, children_forest}
-use Rattle.swc_captures.specs.Captured.{captured_in, seen}
-use Rattle.swc_captures.specs.Views.{sight, scopes}
-use Rattle.swc_captures.proofs.Alike.{none_added, none_added_twice, empty_scope, empty_function}
-use Rattle.swc_captures.proofs.First.{found_below}
+use Rattle.swc_visit.specs.Nodes.{node_tree, children_forest, next_forest}
+use Rattle.swc_visit.specs.declared.children.Children.TheVariants.{One}
+use Rattle.swc_ast.specs.Valid.{valid, valid_all}
+use Rattle.swc_resolved.specs.Names.{names}
+use Rattle.swc_captures.specs.Captured.{Inside, with_scope, each, captured_in, seen}
+use Rattle.swc_captures.specs.Views.{sight, captures}
+use Rattle.swc_captures.proofs.First.{found_below, found_among, goes_on, alone, one_is, nobody, alone_falls}
 use Rattle.swc_captures.proofs.captures.+captures.Goals as goal
 
-pub first_in-returns : goal.first_in-returns
-first_in-returns t c =
+pub first_in-returns-clause-sight : goal.first_in-returns-clause-sight
+first_in-returns-clause-sight t c =
     let opened = c.open-opened.ensures in
     subst (λ x. IfOk c.first_below.result (λ s. sight s ≡ x))
-    (found_below (scopes c.args.round.now) (node_tree c.args.n) (kind_label c.open-opened.result.kind) (children_forest c.open-opened.result.children) c.own_captured-own.result c.args.is_valid c.stays_valid-is_good.result opened.0 opened.1 c.own_captured-own.ensures (sym c.is_some.ensures ∙ c.if-is_some.false) c.stays_valid-is_good.ensures)
-    c.first_below.ensures
+    (found_below (captures c.args.table.now) (node_tree c.args.n) (kind_label c.open-opened.result.kind) (children_forest c.open-opened.result.children) c.own_captured-own.result c.args.is_valid c.stays_valid-is_good.result opened.0 opened.1 c.own_captured-own.ensures (sym c.is_some.ensures ∙ c.if-is_some.false) c.stays_valid-is_good.ensures)
+    c.first_below.ensures.sight
 
-pub first_in_scope-returns-then-is_empty : goal.first_in_scope-returns-then-is_empty
-first_in_scope-returns-then-is_empty t c =
-    let own = own_names (kind_label c.args.kind) (children_forest c.args.children) in
-    subst (λ x. IfOk c.first_inside.result (λ s. sight s ≡ seen x (c.args.is_valid && valid_all (children_forest c.args.children))))
-    (empty_scope c.args.reach (children_forest c.args.children) (scopes c.args.round.now) own (none_added own c.new-names.result.items c.add_own_names.new.names.items c.add_own_names.new.names.len c.new-names.ensures.items c.in_ok-add_own_names.ensures c.add_own_names.new.names.ok.0 (sym c.is_empty.ensures ∙ c.if-is_empty.true)))
-    c.first_inside.ensures
+pub first_in_front-first_inside-requires : goal.first_in_front-first_inside-requires
+first_in_front-first_inside-requires t c = (let h = alone_falls (node_tree c.in-Some.first) (children_forest c.in-Some.rest) (children_forest c.args.children) (children_forest (One c.in-Some.first)) (c.next.ensures ∙ ap next_forest c.in-Some.is) (one_is c.in-Some.first) in omega (arith, h, c.decreases), tt)
 
-pub first_in_one_scope-returns-then-is_empty : goal.first_in_one_scope-returns-then-is_empty
-first_in_one_scope-returns-then-is_empty t c =
-    let params = param_names (params_of (children_forest c.args.children)) in
-    let declared = declared_names (body_of (children_forest c.args.children)) in
-    subst (λ x. IfOk c.first_among.result (λ s. sight s ≡ seen x (c.args.is_valid && valid_all (children_forest c.args.children))))
-    (ap (λ i. captured_in i (children_forest c.args.children)) c.of_function-places.ensures ∙ empty_function c.args.has_key (children_forest c.args.children) (scopes c.args.round.now) (scopes c.args.inner.now) (params ++ declared) (none_added_twice params declared c.new-names.result.items c.add_names.new.names.items c.add_body.new.names.items c.add_body.new.names.len c.new-names.ensures.items (c.in_ok-add_names.ensures ∙ ap (λ us. names c.new-names.result.items ++ param_names us) c.half_of.ensures) (c.in_ok-add_body.ensures ∙ ap (λ us. names c.add_names.new.names.items ++ declared_names us) c.half_of-2.ensures) c.add_body.new.names.ok.0 (sym c.is_empty.ensures ∙ c.if-is_empty.true)))
-    c.first_among.ensures
+pub first_in_front-returns-then-is_some-clause-sight : goal.first_in_front-returns-then-is_some-clause-sight
+first_in_front-returns-then-is_some-clause-sight t c =
+    let e = captures c.args.table.now in let own = with_scope (names c.args.names.now) e in let first = node_tree c.in-Some.first in let cs = children_forest c.args.children in
+    let i : Inside = record { first = own; second = e; others = e } in
+    found_among i first (children_forest c.in-Some.rest) cs c.in_ok-found-in-Some.found (c.args.is_valid && valid first) (c.args.is_valid && valid_all cs) (seen (captured_in i cs) (c.args.is_valid && valid_all cs)) (c.next.ensures ∙ ap next_forest c.in-Some.is) (c.in_ok-found-in-Some.ensures.sight ∙ alone own first (children_forest (One c.in-Some.first)) c.args.is_valid (one_is c.in-Some.first)) (sym c.is_some.ensures ∙ c.if-is_some.true) refl
+
+pub first_in_front-returns-else-is_some-clause-sight : goal.first_in_front-returns-else-is_some-clause-sight
+first_in_front-returns-else-is_some-clause-sight t c =
+    let e = captures c.args.table.now in let own = with_scope (names c.args.names.now) e in let first = node_tree c.in-Some.first in let cs = children_forest c.args.children in
+    let free = sym c.is_some.ensures ∙ c.if-is_some.false in
+    let i : Inside = record { first = own; second = e; others = e } in
+    let j : Inside = each (captures c.first_inside.new.table) in
+    subst (λ x. IfOk c.first_among.result (λ s. sight s ≡ x))
+    (goes_on i j first (children_forest c.in-Some.rest) cs c.in_ok-found-in-Some.found c.args.is_valid (seen (captured_in i cs) (c.args.is_valid && valid_all cs)) (c.next.ensures ∙ ap next_forest c.in-Some.is) (c.in_ok-found-in-Some.ensures.sight ∙ alone own first (children_forest (One c.in-Some.first)) c.args.is_valid (one_is c.in-Some.first)) free (ap each (c.in_ok-found-in-Some.ensures.kept (nobody c.in_ok-found-in-Some.found.captured free))) refl)
+    c.first_among.ensures.sight
