@@ -74,6 +74,7 @@ fn fault_of<'a>(s: Seen<'a>) -> Option<Fault<'a>>
 /// The first captured name of a node, and whether the node is valid where those in front are. Where none is captured, the table
 /// is as it was.
 #[cycle(captures)]
+#[inline(always)]
 #[tactic(auto, using(crate::proofs::First::children_fall, crate::proofs::First::found_here, crate::proofs::First::found_below))]
 fn first_in<'a>(
     n: Node<'a>,
@@ -97,6 +98,7 @@ fn first_in<'a>(
 }
 
 /// Whether nodes stay valid with one more, its children aside.
+#[inline(always)]
 fn stays_valid(is_valid: bool, kind: Kind<'_>, children: Children<'_>) -> bool
     ensures { result ≡ (is_valid && (good_names (kind_label kind.entry) && good_shape (kind_label kind.entry) (children_forest children.entry))) }
 {
@@ -104,6 +106,7 @@ fn stays_valid(is_valid: bool, kind: Kind<'_>, children: Children<'_>) -> bool
 }
 
 /// The name that a node itself spells, where it is captured.
+#[inline(always)]
 fn own_captured<'a>(kind: Kind<'a>, table: &Table<'a>) -> Option<&'a Ident>
     ensures { told result ≡ first_of (if_captured (captures table.now) (label_spelled (kind_label kind.entry))) }
 {
@@ -121,6 +124,7 @@ fn own_captured<'a>(kind: Kind<'a>, table: &Table<'a>) -> Option<&'a Ident>
 
 /// The name that a node spells; a function expression's own name and the parameter of a `catch`
 /// are left out, since they stand in scopes that bind nothing else.
+#[inline(always)]
 fn spelled<'a>(kind: Kind<'a>) -> Option<&'a Ident>
     ensures { told result ≡ label_spelled (kind_label kind.entry) }
 {
@@ -145,6 +149,7 @@ fn spelled<'a>(kind: Kind<'a>) -> Option<&'a Ident>
 
 /// The same among the children of a node.
 #[cycle(captures)]
+#[inline(always)]
 fn first_below<'a>(
     kind: Kind<'a>,
     children: Children<'a>,

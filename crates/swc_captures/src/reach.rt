@@ -21,6 +21,7 @@ pub(crate) enum Reach {
 }
 
 impl Reach {
+    #[inline(always)]
     pub(crate) fn of(kind: Kind<'_>) -> Reach
         ensures { result ≡ label_reach (kind_label kind.entry) }
     {

@@ -10,6 +10,7 @@ use swc_visit::Kind;
 
 /// Whether the names that a node holds are identifiers (ECMA-262, 12.7), or words where any word may stand: what validity asks
 /// of the node's names.
+#[inline(always)]
 pub fn has_good_names(kind: Kind<'_>) -> bool
     ensures { result ≡ good_names (kind_label kind.entry) }
 {

@@ -10,6 +10,7 @@ use swc_visit::{Children, Kind};
 
 /// Whether a node has the children that its kind asks for: what validity asks of the node beside its names and beside the
 /// validity of the children.
+#[inline(always)]
 pub fn has_good_shape(kind: Kind<'_>, children: Children<'_>) -> bool
     ensures { result ≡ good_shape (kind_label kind.entry) (children_forest children.entry) }
 {

@@ -14,6 +14,7 @@ use swc_visit::{Children, Kind};
 
 /// Whether a node that is a function with a default declares no text of a parameter in its body.
 /// Fails where memory is refused.
+#[inline(always)]
 #[tactic(auto, using(crate::proofs::Beside::function_apart))]
 pub(crate) fn is_own_apart(
     kind: Kind<'_>,

@@ -16,6 +16,7 @@ pub enum Half {
 }
 
 /// Whether a node is a function.
+#[inline(always)]
 pub(crate) fn is_function(kind: Kind<'_>) -> bool
     ensures { result ≡ is_function_label (kind_label kind.entry) }
 {

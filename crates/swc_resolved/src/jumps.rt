@@ -36,6 +36,7 @@ impl<'a> Targets<'a> {
 }
 
 /// Whether a node that is a jump has a target.
+#[inline(always)]
 pub(crate) fn is_jump_aimed(kind: Kind<'_>, g: Targets<'_>) -> bool
     ensures { result ≡ jump_is_aimed (kind_label kind.entry) (targets g.entry) }
 {

@@ -16,6 +16,7 @@ use std::alloc::{AllocError, Global};
 use swc_visit::{Children, Kind};
 
 /// Whether a node opens a scope.
+#[inline(always)]
 fn opens_scope(kind: Kind<'_>) -> bool
     ensures { result ≡ opens_scope (kind_label kind.entry) }
 {
@@ -87,6 +88,7 @@ impl<'a> Taken<'a> {
     }
 
     /// Binds the scopes that a node opens, those of its children aside.
+    #[inline(always)]
     #[tactic(auto, using(crate::proofs::Binding::none_opened))]
     pub(crate) fn bind_own(
         &mut self,
@@ -99,6 +101,18 @@ impl<'a> Taken<'a> {
         if !opens_scope(kind) {
             return Ok(true);
         }
+        self.bind_opened(kind, children, alloc)
+    }
+
+    /// The same of a node that opens one.
+    fn bind_opened(
+        &mut self,
+        kind: Kind<'a>,
+        children: Children<'a>,
+        alloc: Global,
+    ) -> Result<bool, AllocError>
+        ensures { IfOk result (λ b. Binds b (is_taken self.old) (is_taken self.new) (λ x. own_scopes x (kind_label kind.entry) (children_forest children.entry))) }
+    {
         let mut names = Vec::new(alloc);
         add_own_names(&mut names, kind, children)?;
         if !is_function(kind) {

@@ -17,6 +17,7 @@ use swc_visit::{Children, Kind, Node};
 
 /// Whether a node that is a jump has a target, a function with a default declares no text of a parameter in its body, and, where
 /// validity is asked for, the node's names and its children are as validity wants them. Fails where memory is refused.
+#[inline(always)]
 pub(crate) fn is_own_good(
     kind: Kind<'_>,
     children: Children<'_>,
@@ -39,6 +40,7 @@ impl<'a> Taken<'a> {
     /// Binds each scope of a tree where jumps may go to `g`, and says whether none binds a name that was taken and the tree is
     /// good. Fails where memory is refused.
     #[cycle(walk)]
+    #[inline(always)]
     #[tactic(auto, using(crate::proofs::Good::own_binds_again))]
     fn walk(
         &mut self,
@@ -61,7 +63,33 @@ impl<'a> Taken<'a> {
 
     /// The same of the children of a node, where jumps at the node may go to `g`.
     #[cycle(walk)]
+    #[inline(always)]
     pub(crate) fn walk_below(
+        &mut self,
+        kind: Kind<'a>,
+        children: Children<'a>,
+        valid_too: bool,
+        g: &Targets<'_>,
+        alloc: Global,
+    ) -> Result<bool, AllocError>
+        ensures { IfOk result (λ b. Passes b (good_all valid_too (below (kind_label kind.entry) (targets g.now)) (children_forest children.entry)) (is_taken self.old) (is_taken self.new) (λ x. scopes_all x (children_forest children.entry))) }
+    {
+        match kind {
+            Kind::Labeled(_) | Kind::While | Kind::DoWhile | Kind::For | Kind::Switch(_) => {
+                self.walk_inside(kind, children, valid_too, g, alloc)
+            }
+            Kind::Fn(_) | Kind::Arrow | Kind::Method | Kind::FnDecl(_) | Kind::ExportDefaultFn(_) =>
+                { self.walk_inside(kind, children, valid_too, g, alloc) }
+            _ => match g.own {
+                [] => self.walk_all(children, valid_too, g, alloc),
+                _ => self.walk_inside(kind, children, valid_too, g, alloc),
+            },
+        }
+    }
+
+    /// The same, where jumps inside the node may go elsewhere.
+    #[cycle(walk)]
+    fn walk_inside(
         &mut self,
         kind: Kind<'a>,
         children: Children<'a>,
@@ -103,13 +131,10 @@ impl<'a> Taken<'a> {
             }
             Kind::Fn(_) | Kind::Arrow | Kind::Method | Kind::FnDecl(_) | Kind::ExportDefaultFn(_) =>
                 { self.walk_all(children, valid_too, &Targets::none(), alloc) }
-            _ => match g.own {
-                [] => self.walk_all(children, valid_too, g, alloc),
-                _ => {
-                    let inner = Targets { own: &[], ..*g };
-                    self.walk_all(children, valid_too, &inner, alloc)
-                }
-            },
+            _ => {
+                let inner = Targets { own: &[], ..*g };
+                self.walk_all(children, valid_too, &inner, alloc)
+            }
         }
     }
 

@@ -33,10 +33,10 @@ pub walk_below-returns-in-empty : goal.walk_below-returns-in-empty
 walk_below-returns-in-empty t c =
     let k = c.args.kind in let g = targets c.args.g.now in let cs = children_forest c.args.children in let d = c.in_default in
     let below = plain_below k g d.not-Labeled d.not-While d.not-DoWhile d.not-For d.not-Switch d.not-Fn d.not-Arrow d.not-Method d.not-FnDecl d.not-ExportDefaultFn in
-    subst (λ h. IfOk c.walk_all-in-empty.result (λ b. Passes b (good_all c.args.valid_too h cs) (is_taken c.args.self.now) (is_taken c.walk_all-in-empty.new.self) (λ x. scopes_all x cs))) (plain_already g (no_texts (λ t. t.now) c.args.g.now.own.now c.in-empty.len_below) ∙ below) c.walk_all-in-empty.ensures
+    subst (λ h. IfOk c.walk_all.result (λ b. Passes b (good_all c.args.valid_too h cs) (is_taken c.args.self.now) (is_taken c.walk_all.new.self) (λ x. scopes_all x cs))) (plain_already g (no_texts (λ t. t.now) c.args.g.now.own.now c.in-empty.len_below) ∙ below) c.walk_all.ensures
 
-pub walk_below-returns-in_default-own : goal.walk_below-returns-in_default-own
-walk_below-returns-in_default-own t c =
+pub walk_inside-returns-in_default : goal.walk_inside-returns-in_default
+walk_inside-returns-in_default t c =
     let k = c.args.kind in let g = targets c.args.g.now in let cs = children_forest c.args.children in let d = c.in_default in
     let below = plain_below k g d.not-Labeled d.not-While d.not-DoWhile d.not-For d.not-Switch d.not-Fn d.not-Arrow d.not-Method d.not-FnDecl d.not-ExportDefaultFn in
-    subst (λ h. IfOk c.walk_all-in_default-own.result (λ b. Passes b (good_all c.args.valid_too h cs) (is_taken c.args.self.now) (is_taken c.walk_all-in_default-own.new.self) (λ x. scopes_all x cs))) below c.walk_all-in_default-own.ensures
+    subst (λ h. IfOk c.walk_all-in_default.result (λ b. Passes b (good_all c.args.valid_too h cs) (is_taken c.args.self.now) (is_taken c.walk_all-in_default.new.self) (λ x. scopes_all x cs))) below c.walk_all-in_default.ensures
