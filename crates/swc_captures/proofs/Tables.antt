@@ -24,14 +24,14 @@ use Rattle.swc_captures.specs.declared.table.Known.{Known}
 use Rattle.swc_captures.specs.declared.table.Outer.{Outer}
 use Rattle.swc_captures.specs.declared.table.Table.{Table}
 
--- a text's contexts are taken out, and put in again with one more
+-- a text gets one more context
 
 twice : {A : Type 0} (b : Bool) (v w z : A) → cond b v (cond b w z) ≡ cond b v z
 twice true v w z = refl
 twice false v w z = refl
 
-pub after : {S : Type 0} (m mid n : HashMap (Bor (List ℕ)) Known S) (bs t : Text) (v : Known) → UpdatesBy (λ x y. bytes_eq x.now y.now) (λ k. bytes_eq bs k.now) m mid None → UpdatesBy (λ x y. bytes_eq x.now y.now) (λ k. bytes_eq bs k.now) mid n (Some v) → get_by (λ k. bytes_eq t k.now) n ≡ cond (bytes_eq bs t) (Some v) (get_by (λ k. bytes_eq t k.now) m)
-after m mid n bs t v out put = hash_map_updates_str bs mid n (Some v) put t ∙ ap (λ o. cond (bytes_eq bs t) (Some v) o) (hash_map_updates_str bs m mid None out t) ∙ twice (bytes_eq bs t) (Some v) None (get_by (λ k. bytes_eq t k.now) m)
+pub after : {S : Type 0} (m mid n : HashMap (Bor (List ℕ)) Known S) (bs t : Text) (v : Known) (w : Option Known) → UpdatesBy (λ x y. bytes_eq x.now y.now) (λ k. bytes_eq bs k.now) m mid w → UpdatesBy (λ x y. bytes_eq x.now y.now) (λ k. bytes_eq bs k.now) mid n (Some v) → get_by (λ k. bytes_eq t k.now) n ≡ cond (bytes_eq bs t) (Some v) (get_by (λ k. bytes_eq t k.now) m)
+after m mid n bs t v w first put = hash_map_updates_str bs mid n (Some v) put t ∙ ap (λ o. cond (bytes_eq bs t) (Some v) o) (hash_map_updates_str bs m mid w first t) ∙ twice (bytes_eq bs t) (Some v) w (get_by (λ k. bytes_eq t k.now) m)
 
 some_of : {A : Type 0} (b : Bool) (v : A) (o : Option A) → is_some (cond b (Some v) o) ≡ (b || is_some o)
 some_of true v o = refl
@@ -97,11 +97,11 @@ first_rest : (xs : List key.Name) (t : Text) → 1 ≤ length xs → declares_te
 first_rest [] t some = absurd (omega (arith, some))
 first_rest (x ∷ xs) t some = ap (λ ys. bytes_eq (name x).text t || declares_text (names ys) t) (sym (rest_is x xs))
 
-has_last : (os : List Outer) (o : Outer) (t : Text) → has_outer (os ++ (o ∷ [])) t ≡ (has_outer os t || bytes_eq o.text.now t)
-has_last os o t = list_any-append (λ p. bytes_eq p.text.now t) os (o ∷ []) ∙ ap (λ b. has_outer os t || b) (sym (or_nothing (bytes_eq o.text.now t)))
+has_next : (os ns : List Outer) (o : Outer) (t : Text) → ns ≡ os ++ (o ∷ []) → has_outer ns t ≡ (has_outer os t || bytes_eq o.text.now t)
+has_next os ns o t made = ap (λ ps. has_outer ps t) made ∙ list_any-append (λ p. bytes_eq p.text.now t) os (o ∷ []) ∙ ap (λ b. has_outer os t || b) (sym (or_nothing (bytes_eq o.text.now t)))
 
-pub had_step : (os : List Outer) (o : Outer) (left : List key.Name) (g : Bool) (t : Text) → 1 ≤ length left → o.text.now ≡ (name (get_or left 0 nobody)).text → (has_outer os t || declares_text (names left) t) ≡ g → (has_outer (os ++ (o ∷ [])) t || declares_text (names (take (length left - 1) (drop 1 left))) t) ≡ g
-had_step os o left g t some is h = ap (λ b. b || declares_text (names (take (length left - 1) (drop 1 left))) t) (has_last os o t ∙ ap (λ bs. has_outer os t || bytes_eq bs t) is) ∙ joined (has_outer os t) (bytes_eq (name (get_or left 0 nobody)).text t) (declares_text (names (take (length left - 1) (drop 1 left))) t) ∙ ap (λ b. has_outer os t || b) (sym (first_rest left t some)) ∙ h
+pub had_next : (os ns : List Outer) (o : Outer) (left : List key.Name) (g : Bool) (t : Text) → ns ≡ os ++ (o ∷ []) → 1 ≤ length left → o.text.now ≡ (name (get_or left 0 nobody)).text → (has_outer os t || declares_text (names left) t) ≡ g → (has_outer ns t || declares_text (names (take (length left - 1) (drop 1 left))) t) ≡ g
+had_next os ns o left g t made some is h = ap (λ b. b || declares_text (names (take (length left - 1) (drop 1 left))) t) (has_next os ns o t made ∙ ap (λ bs. has_outer os t || bytes_eq bs t) is) ∙ joined (has_outer os t) (bytes_eq (name (get_or left 0 nobody)).text t) (declares_text (names (take (length left - 1) (drop 1 left))) t) ∙ ap (λ b. has_outer os t || b) (sym (first_rest left t some)) ∙ h
 
 taken_twice : {A : Type 0} (a b : Bool) (o : Option A) → cond b None (if a then None else o) ≡ (if (a || b) then None else o)
 taken_twice true true o = refl
@@ -109,12 +109,12 @@ taken_twice true false o = refl
 taken_twice false true o = refl
 taken_twice false false o = refl
 
-pub taken_step : {S : Type 0} (m n : HashMap (Bor (List ℕ)) Known S) (os : List Outer) (o : Outer) (old : Option Known) (t : Text) → UpdatesBy (λ x y. bytes_eq x.now y.now) (λ k. bytes_eq o.text.now k.now) m n None → get_by (λ k. bytes_eq t k.now) m ≡ (if has_outer os t then None else old) → get_by (λ k. bytes_eq t k.now) n ≡ (if has_outer (os ++ (o ∷ [])) t then None else old)
-taken_step m n os o old t out h = hash_map_updates_str o.text.now m n None out t ∙ ap (cond (bytes_eq o.text.now t) None) h ∙ taken_twice (has_outer os t) (bytes_eq o.text.now t) old ∙ sym (ap (λ b. if b then None else old) (has_last os o t))
+pub taken_next : {S : Type 0} (m n : HashMap (Bor (List ℕ)) Known S) (os ns : List Outer) (o : Outer) (old : Option Known) (t : Text) → ns ≡ os ++ (o ∷ []) → UpdatesBy (λ x y. bytes_eq x.now y.now) (λ k. bytes_eq o.text.now k.now) m n None → get_by (λ k. bytes_eq t k.now) m ≡ (if has_outer os t then None else old) → get_by (λ k. bytes_eq t k.now) n ≡ (if has_outer ns t then None else old)
+taken_next m n os ns o old t made out h = hash_map_updates_str o.text.now m n None out t ∙ ap (cond (bytes_eq o.text.now t) None) h ∙ taken_twice (has_outer os t) (bytes_eq o.text.now t) old ∙ sym (ap (λ b. if b then None else old) (has_next os ns o t made))
 
 -- what texts stood for is put back
 
-pub restored_append : (os : List Outer) (o : Outer) (e : Scopes) → restored (os ++ (o ∷ [])) e ≡ restored os (restored (o ∷ []) e)
+restored_append : (os : List Outer) (o : Outer) (e : Scopes) → restored (os ++ (o ∷ [])) e ≡ restored os (restored (o ∷ []) e)
 restored_append [] o e = refl
 restored_append (p ∷ ps) o e = ap (λ f x. if bytes_eq p.text.now x.text then lacks p.known x else f x) (restored_append ps o e)
 
@@ -123,20 +123,11 @@ outer_one true b x y z h = refl
 outer_one false true x y z h = h refl refl
 outer_one false false x y z h = refl
 
-pub outside_step : (old : Table) (cur : Text → Option Known) (os : List Outer) (o : Outer) (e : Scopes) (x : Name) → o.known ≡ cur o.text.now → ((t : Text) → cur t ≡ (if has_outer os t then None else known_of old t)) → ((f : Scopes) → restored os f x ≡ (if has_outer os x.text then captures old x else f x)) → restored (os ++ (o ∷ [])) e x ≡ (if has_outer (os ++ (o ∷ [])) x.text then captures old x else e x)
-outside_step old cur os o e x is taken h = ap (λ f. f x) (restored_append os o e) ∙ h (restored (o ∷ []) e) ∙ outer_one (has_outer os x.text) (bytes_eq o.text.now x.text) (captures old x) (lacks o.known x) (e x) here ∙ sym (ap (λ b. if b then captures old x else e x) (has_last os o x.text))
+pub outside_next : (old : Table) (cur : Text → Option Known) (os ns : List Outer) (o : Outer) (e : Scopes) (x : Name) → ns ≡ os ++ (o ∷ []) → o.known ≡ cur o.text.now → ((t : Text) → cur t ≡ (if has_outer os t then None else known_of old t)) → ((f : Scopes) → restored os f x ≡ (if has_outer os x.text then captures old x else f x)) → restored ns e x ≡ (if has_outer ns x.text then captures old x else e x)
+outside_next old cur os ns o e x made is taken h = ap (λ ps. restored ps e x) made ∙ ap (λ f. f x) (restored_append os o e) ∙ h (restored (o ∷ []) e) ∙ outer_one (has_outer os x.text) (bytes_eq o.text.now x.text) (captures old x) (lacks o.known x) (e x) here ∙ sym (ap (λ b. if b then captures old x else e x) (has_next os ns o x.text made))
   where
     here : has_outer os x.text ≡ false → bytes_eq o.text.now x.text ≡ true → lacks o.known x ≡ captures old x
     here free same = ap (λ k. lacks k x) (is ∙ ap cur ((bytes_eq-Decides o.text.now x.text).0 same) ∙ taken x.text ∙ ap (λ b. if b then None else known_of old x.text) free)
-
-pub had_next : (os ns : List Outer) (o : Outer) (left : List key.Name) (g : Bool) (t : Text) → ns ≡ os ++ (o ∷ []) → 1 ≤ length left → o.text.now ≡ (name (get_or left 0 nobody)).text → (has_outer os t || declares_text (names left) t) ≡ g → (has_outer ns t || declares_text (names (take (length left - 1) (drop 1 left))) t) ≡ g
-had_next os ns o left g t made some is h = ap (λ ps. has_outer ps t || declares_text (names (take (length left - 1) (drop 1 left))) t) made ∙ had_step os o left g t some is h
-
-pub taken_next : {S : Type 0} (m n : HashMap (Bor (List ℕ)) Known S) (os ns : List Outer) (o : Outer) (old : Option Known) (t : Text) → ns ≡ os ++ (o ∷ []) → UpdatesBy (λ x y. bytes_eq x.now y.now) (λ k. bytes_eq o.text.now k.now) m n None → get_by (λ k. bytes_eq t k.now) m ≡ (if has_outer os t then None else old) → get_by (λ k. bytes_eq t k.now) n ≡ (if has_outer ns t then None else old)
-taken_next m n os ns o old t made out h = taken_step m n os o old t out h ∙ sym (ap (λ ps. if has_outer ps t then None else old) made)
-
-pub outside_next : (old : Table) (cur : Text → Option Known) (os ns : List Outer) (o : Outer) (e : Scopes) (x : Name) → ns ≡ os ++ (o ∷ []) → o.known ≡ cur o.text.now → ((t : Text) → cur t ≡ (if has_outer os t then None else known_of old t)) → ((f : Scopes) → restored os f x ≡ (if has_outer os x.text then captures old x else f x)) → restored ns e x ≡ (if has_outer ns x.text then captures old x else e x)
-outside_next old cur os ns o e x made is taken h = ap (λ ps. restored ps e x) made ∙ outside_step old cur os o e x is taken h ∙ sym (ap (λ ps. if has_outer ps x.text then captures old x else e x) made)
 
 pub had_all : (os : List Outer) (left : List key.Name) (g : Bool) (t : Text) → length left < 1 → (has_outer os t || declares_text (names left) t) ≡ g → has_outer os t ≡ g
 had_all os [] g t short h = or_nothing (has_outer os t) ∙ h

@@ -1,11 +1,11 @@
 //! What texts stand for at a place.
-ghost use Rattle.std.specs.Prelude.{◌≡◌, ◌∷◌, ◌++◌, ◌||◌, if◌then◌else◌, [], IfOk, OnOk, bytes_eq, is_some};
+ghost use Rattle.std.specs.Prelude.{◌≡◌, ◌∷◌, ◌||◌, if◌then◌else◌, [], IfOk, OnOk, bytes_eq, is_some};
 ghost use Rattle.swc_ast.specs.Resolved.{declares_text};
 ghost use Rattle.swc_ast.specs.Scope.{has_name};
 ghost use Rattle.swc_ast.specs.Tree as tree;
 ghost use Rattle.swc_ast.specs.Tree.{Text, same_name};
 ghost use Rattle.swc_captures.specs.Captured.{Scopes, no_scope, with_scope};
-ghost use Rattle.swc_captures.specs.Views.{contexts, contexts_of, has_context, known_of, binds, captures, restored};
+ghost use Rattle.swc_captures.specs.Views.{contexts, has_context, known_of, binds, captures, restored};
 ghost use Rattle.swc_resolved.specs.Names.{name, names as names_of};
 
 use std::alloc::{AllocError, Global};
@@ -114,8 +114,15 @@ impl<'a> Table<'a> {
         ensures texts { OnOk result ((t : Text) → is_some (known_of self.new t) ≡ (bytes_eq (name x.entry).text t || is_some (known_of self.old t))) }
         ensures names { OnOk result ((y : tree.Name) → binds self.new y ≡ (binds self.old y || same_name (name x.entry) y)) }
     {
-        let known = with_context(self.known.remove(x.text), x.context, alloc)?;
-        self.known.insert(x.text, known)?;
+        let alone = Known {
+            first: x.context,
+            others: Vec::new(alloc),
+        };
+        if let Some(before) = self.known.insert(x.text, alone)? {
+            let mut more = before;
+            more.others.push(x.context)?;
+            self.known.insert(x.text, more)?;
+        }
         Ok(())
     }
 
@@ -144,26 +151,5 @@ impl<'a> Table<'a> {
             }
         }
         Ok(())
-    }
-}
-
-/// What is known of a text, with one more context. Fails where memory is refused.
-fn with_context(
-    known: Option<Known>,
-    context: SyntaxContext,
-    alloc: Global,
-) -> Result<Known, AllocError>
-    ensures { IfOk result (λ k. contexts k ≡ contexts_of known ++ context ∷ []) }
-{
-    match known {
-        None => Ok(Known {
-            first: context,
-            others: Vec::new(alloc),
-        }),
-        Some(known) => {
-            let mut more = known;
-            more.others.push(context)?;
-            Ok(more)
-        }
     }
 }
