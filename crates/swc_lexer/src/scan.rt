@@ -85,7 +85,15 @@ impl<'a> Scanner<'a> {
 
     /// A number, with the letters, the fraction and the exponent behind it.
     fn number(&mut self) -> Kind {
+        let is_decimal = !matches!(
+            self.rest(),
+            [b'0', b'x' | b'X' | b'o' | b'O' | b'b' | b'B', ..]
+        );
         self.advance(word_len(self.rest()));
+        let is_big = byte_at(self.bytes, self.place.saturating_sub(1)) == b'n';
+        if is_big || !is_decimal {
+            return Kind::Number;
+        }
         if byte_at(self.rest(), 0) == b'.' {
             self.advance(1);
             self.advance(word_len(self.rest()));

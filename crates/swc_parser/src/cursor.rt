@@ -5,7 +5,7 @@ use crate::exports::Exports;
 use crate::scopes::Scopes;
 use crate::targets::Targets;
 use std::alloc::Global;
-use swc_ast::{Expr, Mark, Span, Stmt};
+use swc_ast::{DUMMY_SP, Expr, Mark, Span, Stmt};
 use swc_lexer::{Construct, Fault, Kind, Token};
 
 /// How many expressions and statements may stand inside one another, the innermost among them.
@@ -27,6 +27,8 @@ pub(crate) struct Parser<'a> {
     pub(crate) labels_end: usize,
     /// whether the text has `?.`
     pub(crate) has_chains: bool,
+    /// whether nodes get their spans, or dummy ones
+    pub(crate) has_spans: bool,
     /// the statements that were read of lists that have not ended, those of the innermost list last
     pub(crate) stmts: Vec<Stmt>,
     pub(crate) scopes: Scopes<'a>,
@@ -112,6 +114,7 @@ impl<'a> Parser<'a> {
             refused_in: usize::MAX,
             labels_end: 0,
             has_chains,
+            has_spans: true,
             stmts: Vec::new(alloc),
             scopes: Scopes::new(alloc, mark)?,
             targets: Targets::new(alloc),
@@ -172,9 +175,12 @@ impl<'a> Parser<'a> {
         self.token_at(self.place.saturating_sub(1)).end
     }
 
-    /// The span from an offset to where the token before ends.
+    /// The span from an offset to where the token before ends, or a dummy one where nodes get none.
     #[inline(always)]
     pub(crate) fn span_from(&self, start: u32) -> Span {
+        if !self.has_spans {
+            return DUMMY_SP;
+        }
         let end = self.end();
         Span {
             lo: start.saturating_add(1),

@@ -20,5 +20,5 @@ mod scopes;
 mod statement;
 mod targets;
 
-pub use parse::{parse_expr, parse_module, parse_script};
+pub use parse::{parse_expr, parse_module, parse_script, parse_spanless_expr};
 pub use swc_lexer::{Construct, Fault};

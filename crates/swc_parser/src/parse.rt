@@ -70,8 +70,24 @@ pub fn parse_script(alloc: Global, text: &str, mark: Mark) -> Result<Script, Fau
 pub fn parse_expr(alloc: Global, text: &str, mark: Mark) -> Result<Expr, Fault>
     requires { length text.now < 2 ^ 31 }
 {
+    parse_spanned(alloc, text, mark, true)
+}
+
+/// The same expression with dummy spans. It is refused where `parse_expr` refuses, with the same fault.
+pub fn parse_spanless_expr(alloc: Global, text: &str, mark: Mark) -> Result<Expr, Fault>
+    requires { length text.now < 2 ^ 31 }
+{
+    // (offsets of faults are taken from spans)
+    parse_spanned(alloc, text, mark, true)?;
+    parse_spanned(alloc, text, mark, false)
+}
+
+fn parse_spanned(alloc: Global, text: &str, mark: Mark, has_spans: bool) -> Result<Expr, Fault>
+    requires { length text.now < 2 ^ 31 }
+{
     let tokens = tokenize(alloc, text)?;
     let mut parser = Parser::new(alloc, text, tokens.as_slice(), mark)?;
+    parser.has_spans = has_spans;
     let mut read = Box::into_inner(parser.expression(ROOM)?.node);
     parser.expect(Kind::End)?;
     let contexts = parser.scopes.contexts()?;

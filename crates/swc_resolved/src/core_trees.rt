@@ -27,20 +27,20 @@ const GREATEST: u64 = 9007199254740991;
 
 /// Whether a valid module is core: its numbers are of at most 2^53 - 1 in size, and no scope
 /// declares a name twice but for `var`s and parameters. Fails where memory is refused.
-pub fn is_core(m: &Module) -> Result<bool, PassError>
+pub fn is_core(alloc: Global, m: &Module) -> Result<bool, PassError>
     ensures answer { IfOk result (λ b. valid (module_tree m.now) ≡ true → (IsTrue b ↔ IsCore (module_tree m.now))) }
     ensures error { IfErr result (λ e. e ≡ OutOfMemory) }
 {
-    let answer = is_fit(Node::Module(m), *m.body.allocator())?;
+    let answer = is_fit(Node::Module(m), alloc)?;
     Ok(answer)
 }
 
 /// The same of a script.
-pub fn is_script_core(s: &Script) -> Result<bool, PassError>
+pub fn is_script_core(alloc: Global, s: &Script) -> Result<bool, PassError>
     ensures answer { IfOk result (λ b. valid (script_tree s.now) ≡ true → (IsTrue b ↔ IsCore (script_tree s.now))) }
     ensures error { IfErr result (λ e. e ≡ OutOfMemory) }
 {
-    let answer = is_fit(Node::Script(s), *s.body.allocator())?;
+    let answer = is_fit(Node::Script(s), alloc)?;
     Ok(answer)
 }
 

@@ -19,42 +19,50 @@ use swc_visit::Node;
 /// name is bound, each jump has a target, no body declares the text of a parameter beside a
 /// default, and what is exported by name is bound by the module's own scope. Fails where memory is
 /// refused.
-pub fn is_resolved(m: &Module, unresolved_mark: Mark) -> Result<bool, PassError>
+pub fn is_resolved(alloc: Global, m: &Module, unresolved_mark: Mark) -> Result<bool, PassError>
     ensures answer { IfOk result (λ b. IsTrue b ↔ IsResolved (mark_number unresolved_mark) (module_tree m.now)) }
     ensures error { IfErr result (λ e. e ≡ OutOfMemory) }
 {
-    let alloc = *m.body.allocator();
     let answer = is_asked(Node::Module(m), false, unresolved_mark, alloc)?;
     Ok(answer)
 }
 
 /// The same of a script, which has no exports.
-pub fn is_script_resolved(s: &Script, unresolved_mark: Mark) -> Result<bool, PassError>
+pub fn is_script_resolved(
+    alloc: Global,
+    s: &Script,
+    unresolved_mark: Mark,
+) -> Result<bool, PassError>
     ensures answer { IfOk result (λ b. IsTrue b ↔ IsResolved (mark_number unresolved_mark) (script_tree s.now)) }
     ensures error { IfErr result (λ e. e ≡ OutOfMemory) }
 {
-    let alloc = *s.body.allocator();
     let answer = is_asked(Node::Script(s), false, unresolved_mark, alloc)?;
     Ok(answer)
 }
 
 /// Whether a module is valid and resolved for a mark, as `swc_debug::is_valid` and `is_resolved` tell, by one walk. Fails where
 /// memory is refused.
-pub fn is_valid_and_resolved(m: &Module, unresolved_mark: Mark) -> Result<bool, PassError>
+pub fn is_valid_and_resolved(
+    alloc: Global,
+    m: &Module,
+    unresolved_mark: Mark,
+) -> Result<bool, PassError>
     ensures answer { IfOk result (λ b. IsTrue b ↔ (valid (module_tree m.now) ≡ true) × IsResolved (mark_number unresolved_mark) (module_tree m.now)) }
     ensures error { IfErr result (λ e. e ≡ OutOfMemory) }
 {
-    let alloc = *m.body.allocator();
     let answer = is_asked(Node::Module(m), true, unresolved_mark, alloc)?;
     Ok(answer)
 }
 
 /// The same of a script, which has no exports.
-pub fn is_script_valid_and_resolved(s: &Script, unresolved_mark: Mark) -> Result<bool, PassError>
+pub fn is_script_valid_and_resolved(
+    alloc: Global,
+    s: &Script,
+    unresolved_mark: Mark,
+) -> Result<bool, PassError>
     ensures answer { IfOk result (λ b. IsTrue b ↔ (valid (script_tree s.now) ≡ true) × IsResolved (mark_number unresolved_mark) (script_tree s.now)) }
     ensures error { IfErr result (λ e. e ≡ OutOfMemory) }
 {
-    let alloc = *s.body.allocator();
     let answer = is_asked(Node::Script(s), true, unresolved_mark, alloc)?;
     Ok(answer)
 }

@@ -10,7 +10,7 @@ ghost use Rattle.swc_text.specs.declared.error.ReadError.TheVariants.{TooLong};
 use crate::error::{ReadError, told};
 use std::alloc::Global;
 use swc_ast::{Expr, Mark, Module, Script};
-use swc_parser::{parse_expr, parse_module, parse_script};
+use swc_parser::{parse_expr, parse_module, parse_script, parse_spanless_expr};
 use swc_resolved::{is_script_valid_and_resolved, is_valid_and_resolved};
 
 /// 2^31, in bytes
@@ -30,18 +30,18 @@ pub fn read_module(alloc: Global, text: &str, unresolved_mark: Mark) -> Result<M
         return Err(ReadError::TooLong);
     }
     match parse_module(alloc, text, unresolved_mark) {
-        Ok(read) => checked_module(read, unresolved_mark),
+        Ok(read) => checked_module(alloc, read, unresolved_mark),
         Err(fault) => Err(told(fault)),
     }
 }
 
 /// A module that was parsed: it is valid and resolved, and the tests let that be known.
-fn checked_module(read: Module, unresolved_mark: Mark) -> Result<Module, ReadError>
+fn checked_module(alloc: Global, read: Module, unresolved_mark: Mark) -> Result<Module, ReadError>
     ensures valid { IfOk result (λ m. valid (module_tree m) ≡ true) }
     ensures resolved { IfOk result (λ m. IsResolved (mark_number unresolved_mark) (module_tree m)) }
     ensures refused { IfErr result (λ e. e ≢ TooLong) }
 {
-    let is_good = is_valid_and_resolved(&read, unresolved_mark)?;
+    let is_good = is_valid_and_resolved(alloc, &read, unresolved_mark)?;
     if is_good {
         Ok(read)
     } else {
@@ -60,18 +60,18 @@ pub fn read_script(alloc: Global, text: &str, unresolved_mark: Mark) -> Result<S
         return Err(ReadError::TooLong);
     }
     match parse_script(alloc, text, unresolved_mark) {
-        Ok(read) => checked_script(read, unresolved_mark),
+        Ok(read) => checked_script(alloc, read, unresolved_mark),
         Err(fault) => Err(told(fault)),
     }
 }
 
 /// The same of a script.
-fn checked_script(read: Script, unresolved_mark: Mark) -> Result<Script, ReadError>
+fn checked_script(alloc: Global, read: Script, unresolved_mark: Mark) -> Result<Script, ReadError>
     ensures valid { IfOk result (λ s. valid (script_tree s) ≡ true) }
     ensures resolved { IfOk result (λ s. IsResolved (mark_number unresolved_mark) (script_tree s)) }
     ensures refused { IfErr result (λ e. e ≢ TooLong) }
 {
-    let is_good = is_script_valid_and_resolved(&read, unresolved_mark)?;
+    let is_good = is_script_valid_and_resolved(alloc, &read, unresolved_mark)?;
     if is_good {
         Ok(read)
     } else {
@@ -88,6 +88,20 @@ pub fn read_expr(alloc: Global, text: &str, unresolved_mark: Mark) -> Result<Exp
         return Err(ReadError::TooLong);
     }
     match parse_expr(alloc, text, unresolved_mark) {
+        Ok(read) => Ok(read),
+        Err(fault) => Err(told(fault)),
+    }
+}
+
+/// Reads an expression as `read_expr` does, with dummy spans: of a value that is put into other texts, so that no span tells of
+/// a place there. Errors are those of `read_expr`.
+pub fn read_value(alloc: Global, text: &str, unresolved_mark: Mark) -> Result<Expr, ReadError>
+    ensures too_long { IsErrOf result ReadError.TooLong ↔ 2 ^ 31 ≤ length text.now }
+{
+    if text.len() >= TOO_LONG {
+        return Err(ReadError::TooLong);
+    }
+    match parse_spanless_expr(alloc, text, unresolved_mark) {
         Ok(read) => Ok(read),
         Err(fault) => Err(told(fault)),
     }

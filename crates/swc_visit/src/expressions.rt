@@ -52,9 +52,10 @@ pub(crate) fn part_of<'a>(e: &'a Expr) -> Part<'a>
     }
 }
 
+/// What an expression is, and its children.
 #[tactic(auto, using(swc_ast::proofs::Equations::forms), unfolding(crate::specs::Nodes::children_forest))]
 #[inline(always)]
-pub(crate) fn open_expr<'a>(e: &'a Expr) -> Opened<'a>
+pub fn open_expr<'a>(e: &'a Expr) -> Opened<'a>
     ensures { Opens (expr_tree e.now) result }
 {
     match e {

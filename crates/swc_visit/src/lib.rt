@@ -13,6 +13,7 @@ mod statements;
 
 pub use children::Children;
 pub use class::Class;
+pub use expressions::open_expr;
 pub use kind::Kind;
 pub use lists::NodeList;
 pub use modules::open_module_decl;
