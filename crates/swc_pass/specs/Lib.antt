@@ -5,3 +5,9 @@ pub mod ChainLaws
 pub mod Repeat
 pub mod RepeatLaws
 pub mod Laws
+pub mod Given
+pub mod Inlined
+pub mod Constants
+pub mod InFront
+pub mod Vectors
+pub mod Counter

@@ -1,6 +1,7 @@
 //! Passes over modules and scripts: what each promises, and passes made of passes.
 #![tactic(auto)]
 
+ghost use Rattle.swc_pass.specs.InFront.{InFront};
 ghost use Rattle.swc_pass.specs.Laws.{RowIsLawful, RoundsAreLawful, RoundsComeToEnd, RoundsAreFew};
 ghost use Rattle.swc_pass.specs.Pass.{IsLawful};
 
@@ -12,6 +13,7 @@ mod whole;
 pub use chain::Chain;
 pub use pass::{CompilerPass, Pass, Repeated};
 pub use repeat::Repeat;
+pub use whole::{Made, Whole, settle};
 
 /// The laws of a pass, which its contract states: an answer does the same, stays resolved, valid and core, and is lighter
 /// where the pass says so.
@@ -30,4 +32,9 @@ pub fn repeat_laws<P: Pass>()
     ensures lawful { (s : P.Settings) → RoundsAreLawful (P.spec s) }
     ensures comes_to_end { (s : P.Settings) → RoundsComeToEnd (P.spec s) }
     ensures few_rounds { (s : P.Settings) → RoundsAreFew (P.spec s) }
+{}
+
+/// The law of the world with answers, which its contract states: a pass behind what was put keeps what a module does there.
+pub fn given_laws()
+    ensures in_front { InFront }
 {}

@@ -10,10 +10,11 @@ use crate::pass::Pass;
 use std::alloc::{AllocError, Global};
 use swc_ast::{EqIgnoreSpan, Module, PassError, Script};
 
-/// What a pass rewrites.
-pub(crate) trait Whole: Drop {
+/// What a pass rewrites: a module or a script.
+pub trait Whole: Drop {
     ghost tree: { Self → Tree };
 
+    /// A copy, spans included. It refuses where memory runs out.
     fn copy(&self) -> Result<Self, AllocError>
         ensures { IfOk result (λ r. tree r ≡ tree self.now) };
 
@@ -64,13 +65,13 @@ impl Whole for Script {
 
 /// What a run made, and whether it differs from what the run was given.
 #[derive(Drop)]
-pub(crate) struct Made<W> {
-    pub(crate) whole: W,
-    pub(crate) changed: bool,
+pub struct Made<W> {
+    pub whole: W,
+    pub changed: bool,
 }
 
 /// The answer, or the input where they are equal up to spans.
-pub(crate) fn settle<W: Whole>(input: W, answer: W) -> Made<W>
+pub fn settle<W: Whole>(input: W, answer: W) -> Made<W>
     ensures gives { GivesBack (W.tree input) (W.tree answer) (W.tree result.whole) }
     ensures changed { TellsChange result.changed (W.tree input) (W.tree result.whole) }
 {
