@@ -1,0 +1,5 @@
+mod Clear
+mod Quiet
+mod Consumed
+mod Written
+mod Valued

@@ -1,0 +1,4 @@
+pub mod Carry
+pub mod Parted
+pub mod Late
+pub mod Voids
