@@ -1,0 +1,22 @@
+use Rattle.std.proofs.Common.{sym, ap, ◌∙◌}
+use Rattle.swc_ast.specs.Views.{expr_tree}
+use Rattle.swc_pass.specs.Given.{nothing, a_value}
+use Rattle.swc_pass.specs.Inlined.{by_value, by_part}
+use Rattle.given_globals.specs.Globals.{mark_of, given_of}
+use Rattle.given_globals.proofs.Founds.{found_chain, found_part}
+use Rattle.given_globals.proofs.lookup.Lookup.read.Goals as goal
+
+pub returns-in-Some : goal.returns-in-Some
+returns-in-Some c = found_chain c.args.self.now.settings (expr_tree c.args.e.now) c.in-Some.number (ap by_value (sym c.in-Some.is) ∙ c.expression.ensures)
+
+pub returns-in-Some-global : goal.returns-in-Some-global
+returns-in-Some-global c =
+    let s = c.args.self.now.settings in
+    found_part s (expr_tree c.args.e.now) (a_value c.in-Some-global.number) (ap by_value (sym c.in_default.is) ∙ c.expression.ensures)
+    (ap by_value (sym c.in-Some-global.is) ∙ c.global.ensures ∙ sym (ap (by_part (given_of s) (mark_of s.mark)) c.requires))
+
+pub returns-in-None : goal.returns-in-None
+returns-in-None c =
+    let s = c.args.self.now.settings in
+    found_part s (expr_tree c.args.e.now) nothing (ap by_value (sym c.in_default.is) ∙ c.expression.ensures)
+    (ap by_value (sym c.in-None.is) ∙ c.global.ensures ∙ sym (ap (by_part (given_of s) (mark_of s.mark)) c.requires))

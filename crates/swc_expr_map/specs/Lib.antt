@@ -1,0 +1,5 @@
+pub mod Codes
+pub mod Order
+pub mod Entries
+pub mod Rows
+pub mod Laws

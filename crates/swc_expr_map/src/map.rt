@@ -1,0 +1,117 @@
+//! A map with expressions for keys.
+ghost use Rattle.std.specs.Prelude.{◌≡◌, ◌+◌, [], length, is_some, Some, option_map, if◌then◌else◌, IfOk, IfErr, OnOk, OnErr};
+ghost use Rattle.swc_ast.specs.Tree.{Tree};
+ghost use Rattle.swc_ast.specs.Views.{expr_tree};
+ghost use Rattle.swc_ast.specs.declared.errors.PassError.TheVariants.{OutOfMemory};
+ghost use Rattle.swc_expr_map.specs.Order.{key_cmp, same_key};
+ghost use Rattle.swc_expr_map.specs.Entries.{found, number_of, value_at, name_at, IsAt, IsGapFor, IsSorted};
+
+use crate::compare::compare;
+use crate::entry::Entry;
+use crate::leading::leading_name;
+use std::alloc::Global;
+use std::cmp::Ordering;
+use std::marker::Model;
+use swc_ast::{Expr, PassError};
+use swc_visit::open_expr;
+
+/// Values by expressions. Keys are compared without spans and contexts, and have numbers from 0 on in their order.
+#[derive(Drop)]
+pub struct GlobalExprMap {
+    entries: Vec<Entry>,
+}
+
+impl Model for GlobalExprMap {
+    ghost use Rattle.std.specs.Coded.{codes};
+    ghost use Rattle.swc_ast.specs.contracts.expressions.Expr as e;
+    ghost use Rattle.std.specs.Prelude.{List};
+    ghost use Rattle.swc_expr_map.specs.Entries.{IsSorted};
+    ghost use Rattle.swc_expr_map.specs.declared.entry.Entry.{Entry};
+
+    ghost Value = { List Entry };
+
+    ghost coded = { Prim.hlevel (codes, e.the_row.coded) };
+
+    ghost view = { λ m. m.entries.items };
+
+    ghost invariant = { λ m. IsSorted m.entries.items };
+}
+
+impl GlobalExprMap {
+    /// A map without keys.
+    pub fn new(alloc: Global) -> GlobalExprMap
+        ensures { result ≡ [] }
+    {
+        GlobalExprMap {
+            entries: Vec::new(alloc),
+        }
+    }
+
+    /// Puts a value at a key, in place of the one that is there. Refuses where memory is refused, and then changes nothing.
+    pub fn insert(&mut self, key: Expr, value: Expr) -> Result<(), PassError>
+        ensures get { OnOk result ((t : Tree) → found t self.new ≡ (if same_key t (expr_tree key) then Some (expr_tree value) else found t self.old)) }
+        ensures count { OnOk result (length self.new ≡ (if is_some (found (expr_tree key) self.old) then length self.old else length self.old + 1)) }
+        ensures unchanged { OnErr result (self.new ≡ self.old) }
+        ensures memory { IfErr result (λ e. e ≡ OutOfMemory) }
+    {
+        match self.search(&key) {
+            Ok(at) => {
+                self.entries[at].value = value;
+                Ok(())
+            }
+            Err(at) => Ok(self.entries.insert(at, Entry { key, value })?),
+        }
+    }
+
+    /// The value at a key, if one is there.
+    pub fn get(&self, key: &Expr) -> Option<&Expr>
+        ensures { option_map (λ e. expr_tree e.now) result ≡ found (expr_tree key.now) self.now }
+    {
+        match self.search(key) {
+            Ok(at) => Some(&self.entries[at].value),
+            Err(_) => None,
+        }
+    }
+
+    /// How many keys there are: their numbers are those below.
+    pub fn len(&self) -> usize
+        ensures { result ≡ length self.now }
+    {
+        self.entries.len()
+    }
+
+    /// The number of a key, if it is there.
+    pub fn number(&self, key: &Expr) -> Option<usize>
+        ensures { result ≡ number_of (expr_tree key.now) self.now }
+    {
+        self.search(key).ok()
+    }
+
+    /// The value at the key of a number, if one has it.
+    pub fn value(&self, number: usize) -> Option<&Expr>
+        ensures { option_map (λ e. expr_tree e.now) result ≡ value_at self.now number }
+    {
+        Some(&self.entries.get(number)?.value)
+    }
+
+    /// The text of the name that the key of a number begins with. None where the key is no chain of members from a name on,
+    /// and where no key has the number.
+    pub fn name(&self, number: usize) -> Option<&str>
+        ensures { option_map (λ s. s.now) result ≡ name_at self.now number }
+    {
+        leading_name(open_expr(&self.entries.get(number)?.key))
+    }
+
+    /// Where a key is, or where it would go.
+    fn search(&self, key: &Expr) -> Result<usize, usize>
+        ensures at { IfOk result (IsAt self.now (expr_tree key.now)) }
+        ensures absent { IfErr result (IsGapFor self.now (expr_tree key.now)) }
+        ensures sorted { IsSorted self.now }
+    {
+        self.entries.binary_search_by(
+            |e: &Entry| -> Ordering
+                ensures { result ≡ key_cmp (expr_tree e.now.key) (expr_tree key.entry.now) }
+            { compare(&e.key, key) },
+        )
+    }
+}

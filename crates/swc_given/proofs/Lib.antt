@@ -1,0 +1,16 @@
+pub mod Standing
+pub mod Plain
+pub mod Covered
+pub mod Putting
+pub mod Whole
+pub mod Lawful
+pub mod Cycles
+pub mod Uncounted
+pub mod Instances
+pub mod Kept
+pub mod FormedParts
+pub mod FormedViews
+pub mod Walked
+pub mod Gathered
+pub mod ByWalk
+pub mod Givable

@@ -1,0 +1,8 @@
+pub mod Met
+pub mod Put
+pub mod Worked
+pub mod Walk
+pub mod Cycles
+pub mod Givable
+pub mod Formed
+pub mod Faults

@@ -1,0 +1,11 @@
+mod Forms
+mod Lists
+mod Paths
+mod Standing
+mod Turns
+mod Stepping
+mod Ranges
+mod Founds
+mod Expressions
+mod Answered
+mod Passing

@@ -1,0 +1,17 @@
+use Rattle.std.proofs.Common.{refl}
+use Rattle.swc_ast.specs.Modules.{script_tree}
+use Rattle.swc_given.proofs.ByWalk.{a_script}
+use Rattle.swc_inline_globals.proofs.Answered.{some_inlined, none_inlined, some_tells, none_tells}
+use Rattle.swc_inline_globals.proofs.pass.InlineGlobals.fold_script.Goals as goal
+
+pub returns-in-Some-clause-answer : goal.returns-in-Some-clause-answer
+returns-in-Some-clause-answer c = some_inlined script_tree c.args.self.now.settings (script_tree c.args.script) a_script c.in_ok-answer.field-0 c.in-Some.answer c.answer.new.self.changed c.in_ok-answer.ensures.answer c.in-Some.is
+
+pub returns-in-Some-clause-changed : goal.returns-in-Some-clause-changed
+returns-in-Some-clause-changed c = some_tells script_tree c.args.self.now.settings (script_tree c.args.script) c.in_ok-answer.field-0 c.in-Some.answer c.answer.new.self.changed c.in_ok-answer.ensures.answer c.in-Some.is
+
+pub returns-in-None-clause-answer : goal.returns-in-None-clause-answer
+returns-in-None-clause-answer c = none_inlined script_tree c.args.self.now.settings (script_tree c.args.script) (script_tree c.args.script) a_script c.in_ok-answer.field-0 c.answer.new.self.changed c.in_ok-answer.ensures.answer c.in-None.is refl
+
+pub returns-in-None-clause-changed : goal.returns-in-None-clause-changed
+returns-in-None-clause-changed c = none_tells script_tree c.args.self.now.settings (script_tree c.args.script) (script_tree c.args.script) c.in_ok-answer.field-0 c.answer.new.self.changed c.in_ok-answer.ensures.answer c.in-None.is refl
