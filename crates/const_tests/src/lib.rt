@@ -1,0 +1,5 @@
+//! Tests of imports of given modules.
+#![tactic(auto)]
+
+#[cfg(test)]
+mod rows;

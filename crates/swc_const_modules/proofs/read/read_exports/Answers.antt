@@ -1,0 +1,23 @@
+use Rattle.std.proofs.Common.{◌≡◌, ◌⊎◌, rules, subst, string_bytes}
+use Rattle.std.specs.BTreeMap.{get_by_text}
+use Rattle.swc_ast.specs.declared.errors.PassError.TheVariants.{OutOfMemory}
+use Rattle.swc_const_modules.specs.Texts.{Names}
+use Rattle.swc_const_modules.proofs.Given.{named_in_loop}
+use Rattle.swc_const_modules.proofs.Maps.{key_step, key_end, key_start}
+use Rattle.swc_const_modules.proofs.read.read_exports.Goals as goal
+
+pub loop-name-init : goal.loop-name-init
+loop-name-init c = λ x. key_start c.new-values.result c.args.texts.now c.into_iter-name-iterator.result x c.new-values.ensures.empty (search rules)
+
+pub loop-name-preserved : goal.loop-name-preserved
+loop-name-preserved c = λ x. key_step c.loop-name.values c.insert.new.self c.in_ok-clone.field-0 c.in-Some.name.now c.in-Ok.value c.in-Some.text.now c.loop-name.name-iterator c.next.new.self x _ (search rules) c.in_ok-insert.ensures.updates c.in-Some.ensures.steps (c.loop-name.invariant x)
+
+pub loop-name-preserved-in_ok-insert : goal.loop-name-preserved-in_ok-insert
+loop-name-preserved-in_ok-insert c = λ x. key_step c.loop-name.values c.insert.new.self c.in_ok-clone.field-0 c.in-Some.name.now c.in-Ok.value c.in-Some.text.now c.loop-name.name-iterator c.next.new.self x _ (search rules) c.in_ok-insert.ensures.updates c.in-Some.ensures.steps (c.loop-name.invariant x)
+
+pub returns-clause-exports : goal.returns-clause-exports
+returns-clause-exports c = λ x. key_end c.loop-name.values c.loop-name.name-iterator x _ c.in-None.ensures.steps.0 (c.loop-name.invariant x)
+
+pub returns-in-Err-clause-named : goal.returns-in-Err-clause-named
+returns-in-Err-clause-named c = named_in_loop (get_by_text c.loop-name.values (string_bytes c.in-Some.name.now)) c.in-Some.name.now c.in-Some.text.now c.loop-name.name-iterator c.next.new.self c.args.source.now c.args.texts.now c.in-Err.refusal c.in-Some.ensures.steps (c.loop-name.invariant (string_bytes c.in-Some.name.now))
+    (subst (λ n. (c.in-Err.refusal ≡ OutOfMemory) ⊎ Names c.args.source.now n c.in-Err.refusal) c.as_str.ensures.value c.in-Err.ensures)
