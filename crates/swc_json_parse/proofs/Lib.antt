@@ -1,0 +1,12 @@
+pub mod Answered
+pub mod Calls
+pub mod Decided
+pub mod Escapes
+pub mod Keeping
+pub mod Nodes
+pub mod Pieces
+pub mod QuickSame
+pub mod ReadBack
+pub mod Seen
+pub mod Settled
+pub mod Within
