@@ -1,0 +1,9 @@
+//! What is promised of folds of expressions, for edits that must fail: each function here calls the one that it is named
+//! after, under the same contract.
+#![tactic(auto)]
+
+mod members;
+mod operators;
+
+pub use members::{fold_member, fold_sequence, spread_items};
+pub use operators::{fold_binary, fold_condition, fold_unary};

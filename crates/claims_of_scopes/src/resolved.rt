@@ -1,0 +1,39 @@
+//! Resolved and core modules.
+ghost use Rattle.std.specs.Prelude.{◌≡◌, ◌↔◌, true, IsTrue, IfOk, IfErr};
+ghost use Rattle.swc_ast.specs.declared.errors.PassError.TheVariants.{OutOfMemory};
+ghost use Rattle.swc_ast.specs.Core.{IsCore};
+ghost use Rattle.swc_ast.specs.Marks.{mark_number};
+ghost use Rattle.swc_ast.specs.Modules.{module_tree};
+ghost use Rattle.swc_ast.specs.Resolved.{IsResolved};
+ghost use Rattle.swc_ast.specs.Valid.{valid};
+
+use std::alloc::Global;
+use swc_ast::{Mark, Module, PassError};
+
+/// `swc_resolved::is_core`
+pub fn is_core(alloc: Global, m: &Module) -> Result<bool, PassError>
+    ensures answer { IfOk result (λ b. valid (module_tree m.now) ≡ true → (IsTrue b ↔ IsCore (module_tree m.now))) }
+    ensures error { IfErr result (λ e. e ≡ OutOfMemory) }
+{
+    swc_resolved::is_core(alloc, m)
+}
+
+/// `swc_resolved::is_resolved`
+pub fn is_resolved(alloc: Global, m: &Module, unresolved_mark: Mark) -> Result<bool, PassError>
+    ensures answer { IfOk result (λ b. IsTrue b ↔ IsResolved (mark_number unresolved_mark) (module_tree m.now)) }
+    ensures error { IfErr result (λ e. e ≡ OutOfMemory) }
+{
+    swc_resolved::is_resolved(alloc, m, unresolved_mark)
+}
+
+/// `swc_resolved::is_valid_and_resolved`
+pub fn is_valid_and_resolved(
+    alloc: Global,
+    m: &Module,
+    unresolved_mark: Mark,
+) -> Result<bool, PassError>
+    ensures answer { IfOk result (λ b. IsTrue b ↔ (valid (module_tree m.now) ≡ true) × IsResolved (mark_number unresolved_mark) (module_tree m.now)) }
+    ensures error { IfErr result (λ e. e ≡ OutOfMemory) }
+{
+    swc_resolved::is_valid_and_resolved(alloc, m, unresolved_mark)
+}

@@ -1,0 +1,9 @@
+//! What is promised of nodes and of the walk over them, for edits that must fail: each function here calls the one that it is
+//! named after, under the same contract.
+#![tactic(auto)]
+
+mod nodes;
+mod walks;
+
+pub use nodes::{clone_return, is_same_name};
+pub use walks::{rewrite, walk_expr, walk_stmt};

@@ -1,0 +1,51 @@
+//! What is promised of uses of names, for edits that must fail: each function here makes the uses of a tree and asks them, under
+//! what follows from both contracts, or asks them by the method that it is named after, under its contract.
+#![tactic(auto)]
+
+ghost use Rattle.std.specs.Prelude.{◌≡◌, [], IfOk};
+ghost use Rattle.swc_ast.specs.Modules.{module_tree, script_tree};
+ghost use Rattle.swc_ast.specs.Parts.{ident_name};
+ghost use Rattle.dce_rules.specs.Uses.{free_to_go, is_unread};
+ghost use Rattle.dce_uses.specs.Tables as tables;
+
+use dce_uses::Uses;
+use std::alloc::Global;
+use swc_ast::{Ident, Module, PassError, Script};
+
+/// `Uses::is_free` in a module.
+pub fn is_free_in(alloc: Global, m: &Module, name: &Ident) -> Result<bool, PassError>
+    ensures { IfOk result (λ b. b ≡ free_to_go [] (module_tree m.now) (ident_name name.now)) }
+{
+    let uses = Uses::of_module(alloc, m)?;
+    Ok(uses.is_free(name))
+}
+
+/// The same in a script.
+pub fn is_free_in_script(alloc: Global, s: &Script, name: &Ident) -> Result<bool, PassError>
+    ensures { IfOk result (λ b. b ≡ free_to_go [] (script_tree s.now) (ident_name name.now)) }
+{
+    let of_script = Uses::of_script(alloc, s)?;
+    Ok(of_script.is_free(name))
+}
+
+/// `Uses::is_unread` in a module.
+pub fn is_unread_in(alloc: Global, m: &Module, name: &Ident) -> Result<bool, PassError>
+    ensures { IfOk result (λ b. b ≡ is_unread [] (module_tree m.now) (ident_name name.now)) }
+{
+    let uses = Uses::of_module(alloc, m)?;
+    Ok(uses.is_unread(name))
+}
+
+/// `Uses::is_held`
+pub fn is_held(uses: &Uses, name: &Ident) -> bool
+    ensures { result ≡ tables.is_held uses.now (ident_name name.now) }
+{
+    uses.is_held(name)
+}
+
+/// `Uses::is_abroad`
+pub fn is_abroad(uses: &Uses, name: &Ident) -> bool
+    ensures { result ≡ tables.is_abroad uses.now (ident_name name.now) }
+{
+    uses.is_abroad(name)
+}
