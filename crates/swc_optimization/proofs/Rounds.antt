@@ -1,4 +1,4 @@
--- The three passes in a row, again and again, are rounds, and a round is a lawful pass.
+-- The three passes in a row, again and again, are rounds.
 use Rattle.std.proofs.Common.{ℕ, Bool, true, ◌≡◌, refl, sym, subst, Some}
 use Rattle.swc_ast.specs.declared.names.Mark.{Mark}
 use Rattle.swc_ast.specs.Marks.{mark_number}
@@ -6,10 +6,8 @@ use Rattle.swc_ast.specs.Core.{IsCore}
 use Rattle.swc_ast.specs.Resolved.{IsResolved}
 use Rattle.swc_ast.specs.Run.{Same}
 use Rattle.swc_ast.specs.Tree.{Tree}
-use Rattle.swc_ast.specs.Valid.{valid}
-use Rattle.swc_meaning.proofs.Observations.{same_trans}
 use Rattle.swc_pass.specs.Chain.{MarksAgree, chained}
-use Rattle.swc_pass.specs.ChainLaws.{chained_lawful, lighter_on}
+use Rattle.swc_pass.specs.ChainLaws.{chained_lawful}
 use Rattle.swc_pass.specs.Pass.{PassSpec, IsLawful}
 use Rattle.swc_pass.specs.Repeat.{Rounds, none, changing, last, Rounded, Repeats}
 use Rattle.swc_pass.specs.RepeatLaws.{repeated_lawful, rounds_give}
@@ -22,35 +20,6 @@ use Rattle.swc_dce.proofs.ShakeLaw.{tells as shake_tells}
 use Rattle.swc_optimization.specs.Laws.{row_spec, HasOneMark}
 use Rattle.swc_optimization.specs.Simplifier.{Round, round_spec}
 use Rattle.swc_optimization.proofs.Exact.{Settles, settles, given_last, row_last, row_settles}
-
--- a round keeps what its passes keep
-
-module _ (told : Told) where
-  pub round_resolved : (n : ℕ) (t u : Tree) → Round told t u → IsResolved n t → IsResolved n u
-  round_resolved n t u a r = a.shakes.resolved n (a.removes.resolved n (a.simplifies.resolved n r))
-
-  pub round_core : (t u : Tree) → Round told t u → IsCore t → IsCore u
-  round_core t u a c = a.shakes.core (a.removes.core (a.simplifies.core c))
-
-  pub round_valid : (t u : Tree) → Round told t u → valid t ≡ true → valid u ≡ true
-  round_valid t u a v = a.shakes.stays_valid (a.removes.stays_valid (a.simplifies.stays_valid v))
-
-  round_same : (n : ℕ) (t u : Tree) → n ≡ mark_number told.mark → Round told t u → IsResolved n t → IsCore t → Same n told.keeps_imports t u
-  round_same n t u f a r c =
-      let s = a.simplifies.resolved n r in
-      let d = a.simplifies.core c in
-      same_trans n told.keeps_imports t a.simplified u (a.simplifies.same n f told.keeps_imports)
-      (same_trans n told.keeps_imports a.simplified a.removed u (a.removes.same n f s d told.keeps_imports)
-      (a.shakes.same n f (a.removes.resolved n s) (a.removes.core d)))
-
-  pub round_lawful : IsLawful (round_spec told)
-  round_lawful = record {
-    same = λ n t u f a r c. round_same n t u f a r c;
-    resolved = λ n t u f a r. round_resolved n t u a r;
-    valid = λ n t u f a r v. round_valid t u a v;
-    core = λ n t u f a r c. round_core t u a c;
-    lighter = λ t u e a. lighter_on t a.removed u (lighter_on t a.simplified a.removed a.simplifies.lighter a.removes.lighter) a.shakes.lighter;
-  }
 
 -- each pass answers what is equal or lighter
 

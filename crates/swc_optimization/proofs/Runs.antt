@@ -12,7 +12,8 @@ use Rattle.swc_pass.specs.Repeat.{Rounds, Rounded, Repeats}
 use Rattle.swc_dce.specs.Shaken.{Told}
 use Rattle.swc_optimization.specs.Laws.{row_spec, HasOneMark}
 use Rattle.swc_optimization.specs.Simplifier.{Round, round_spec, Settled}
-use Rattle.swc_optimization.proofs.Rounds.{rows_are_rounds, rounds_keep, rows_same, round_resolved, round_valid, round_core}
+use Rattle.swc_optimization.specs.RoundLaws.{round_resolved, round_valid, round_core}
+use Rattle.swc_optimization.proofs.Rounds.{rows_are_rounds, rounds_keep, rows_same}
 use Rattle.swc_optimization.proofs.Settling.{reached_settled}
 
 module _ {A E : Type 0} (f : A → Tree) (r : Result A E) (s : (Mark × Mark) × Told) (one : HasOneMark s) (most : ℕ) (t : Tree) (n : ℕ) (b : Bool) (a : IfOk r (λ x. Repeats (row_spec s) most t n b (f x))) where

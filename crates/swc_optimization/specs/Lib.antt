@@ -1,2 +1,3 @@
 pub mod Simplifier
 pub mod Laws
+pub mod RoundLaws

@@ -5,6 +5,7 @@ use Rattle.swc_ast.specs.Marks.{mark_number}
 use Rattle.swc_ast.specs.Redex.{has_redex}
 use Rattle.swc_ast.specs.Tree.{Name, Label, Tree, node, Forest}
 use Rattle.swc_pass.specs.Pass.{PassSpec}
+use Rattle.swc_pass.specs.Repeat.{Rounded}
 use Rattle.swc_expr.specs.Simplified.{Simplified}
 use Rattle.swc_branch.specs.Removed.{Removed}
 use Rattle.swc_dce.specs.Shaken.{Told, Shaken}
@@ -21,6 +22,10 @@ pub record Round (told : Told) (t u : Tree) : Type 0 where
 
 abbrev pub round_spec : Told → PassSpec
 round_spec told = record { mark = Some told.mark; loads = told.keeps_imports; lowers = true; answers = Round told }
+
+-- rounds, at most so many
+abbrev pub rounds_spec : Told → ℕ → PassSpec
+rounds_spec told most = record { mark = Some told.mark; loads = told.keeps_imports; lowers = true; answers = λ t u. (n : ℕ) × (reached : Bool) × Rounded (round_spec told) most t n reached u }
 
 -- a tree in which a round finds nothing to do
 pub record Settled (told : Told) (t : Tree) : Type 0 where

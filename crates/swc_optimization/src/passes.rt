@@ -1,5 +1,6 @@
 //! The passes in a row, again and again.
 ghost use Rattle.std.specs.Prelude.{◌≡◌, ◌<◌, ◌≤◌, ◌+◌, ℕ, true, false, IfOk, IfErr, OnErr};
+ghost use Rattle.std.proofs.Common.{ap₂};
 ghost use Rattle.swc_ast.specs.Core.{IsCore};
 ghost use Rattle.swc_ast.specs.Marks.{mark_number};
 ghost use Rattle.swc_ast.specs.Modules.{module_tree, script_tree};
@@ -11,7 +12,9 @@ ghost use Rattle.swc_ast.specs.declared.errors.PassError.TheVariants.{OutOfMemor
 ghost use Rattle.swc_pass.specs.Pass.{TellsChange};
 ghost use Rattle.swc_pass.specs.Repeat.{Rounded};
 ghost use Rattle.swc_dce.specs.Configured.{told};
-ghost use Rattle.swc_optimization.specs.Simplifier.{round_spec, Settled};
+ghost use Rattle.swc_dce.specs.Shaken.{Told};
+ghost use Rattle.swc_optimization.specs.Simplifier.{round_spec, rounds_spec, Settled};
+ghost use Rattle.swc_optimization.specs.RoundLaws.{rounds_lawful};
 
 use crate::config::Config;
 use std::alloc::Global;
@@ -161,4 +164,50 @@ impl Simplifier {
     {
         self.passes.rewrite_script(alloc, script)
     }
+}
+
+impl Repeated for Simplifier {
+    ghost is_changed = { λ s. s.changed };
+
+    ghost rounds_run = { λ s. s.rounds };
+
+    ghost is_reached = { λ s. s.reached };
+
+    ghost resets_to = { λ s r. (r.told ≡ s.told) × (r.most ≡ s.most) };
+
+    fn changed(&self) -> bool {
+        self.passes.changed()
+    }
+
+    fn reset(&mut self) {
+        self.passes.reset();
+    }
+}
+
+impl Pass for Simplifier {
+    ghost Settings = { Told × ℕ };
+
+    ghost settings = { λ s. (s.told, s.most) };
+
+    ghost spec = { λ s. rounds_spec s.0 s.1 };
+
+    fn mark(&self) -> Option<Mark> {
+        self.passes.mark()
+    }
+
+    fn lowers(&self) -> bool {
+        true
+    }
+
+    fn rewrite(&mut self, alloc: Global, module: Module) -> Result<Module, PassError> {
+        self.fold_module(alloc, module)
+    }
+
+    fn rewrite_script(&mut self, alloc: Global, script: Script) -> Result<Script, PassError> {
+        self.fold_script(alloc, script)
+    }
+
+    ghost reset_keeps = { λ s r h. ap₂ (λ x y. (x, y)) h.0 h.1 };
+
+    ghost lawful = { λ s. rounds_lawful s.told s.most };
 }

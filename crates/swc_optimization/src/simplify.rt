@@ -6,8 +6,11 @@ pub use crate::config::Config;
 pub use crate::passes::Simplifier;
 use swc_ast::Mark;
 pub use swc_branch as branch;
+pub use swc_branch::{Remover, dead_branch_remover};
 pub use swc_dce as dce;
+pub use swc_dce::TreeShaker;
 pub use swc_expr as expr;
+pub use swc_expr::{Config as ExprSimplifierConfig, SimplifyExpr, expr_simplifier};
 
 /// The simplifier of modules whose unresolved names bear the mark.
 pub fn simplifier(unresolved_mark: Mark, config: Config) -> Simplifier

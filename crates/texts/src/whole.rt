@@ -26,7 +26,7 @@ pub fn of_module(
     if pass.changed() == (answer == module) {
         told.push_str("WRONG: what it tells of its change\n")?;
     }
-    if !(is_resolved(&answer, mark)? && is_core(&answer)? && is_valid(&answer)) {
+    if !(is_resolved(alloc, &answer, mark)? && is_core(alloc, &answer)? && is_valid(&answer)) {
         told.push_str("WRONG: the answer is no tree of the core\n")?;
     }
     let Ok(again) = read_module(alloc, printed, mark) else {
@@ -71,8 +71,8 @@ pub fn of_script(
     if pass.changed() == (answer == script) {
         told.push_str("WRONG: what it tells of its change\n")?;
     }
-    let is_resolved = is_script_resolved(&answer, mark)?;
-    if !(is_resolved && is_script_core(&answer)? && is_script_valid(&answer)) {
+    let is_resolved = is_script_resolved(alloc, &answer, mark)?;
+    if !(is_resolved && is_script_core(alloc, &answer)? && is_script_valid(&answer)) {
         told.push_str("WRONG: the answer is no tree of the core\n")?;
     }
     Ok(told)

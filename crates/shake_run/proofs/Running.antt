@@ -1,0 +1,45 @@
+-- A pass that tells what the options say is the pass that they name.
+use Rattle.std.proofs.Common.{ℕ, ◌≡◌, refl, sym, ap, subst, ◌∙◌, List, map, string_bytes, IfOk, Result}
+use Rattle.std.proofs.lemmas.Result.{IfOk-weaker}
+use Rattle.swc_ast.specs.Resolved.{IsResolved}
+use Rattle.swc_ast.specs.Tree.{Text, Tree}
+use Rattle.swc_ast.specs.declared.names.Mark.{Mark}
+use Rattle.swc_pass.specs.Pass.{PassSpec}
+use Rattle.swc_expr.specs.Simplified.{simplify_spec}
+use Rattle.swc_branch.specs.Removed.{remove_spec}
+use Rattle.swc_dce.specs.Configured.{told}
+use Rattle.swc_dce.specs.Shaken.{Told, shake_spec}
+use Rattle.swc_dce.specs.declared.config.Config.{Config}
+use Rattle.swc_json_parse.specs.Answers.{Parsed}
+use Rattle.shake_run.specs.Passes.{told_by, json_spec, pass_of, pass_by}
+use Rattle.shake_options.specs.declared.options.Options.{Options}
+use Rattle.shake_options.specs.declared.options.PassName.{PassName}
+use Rattle.shake_options.specs.declared.options.PassName.TheVariants.{Expr, Branch, Dce, Json}
+
+module _ (mark : Mark) (o : Options) (retained : List Text) where
+  by_name : {n : PassName} → o.pass ≡ n → pass_of n (told_by mark o retained) o.max_rounds o.min_cost ≡ pass_by mark o retained
+  by_name is = ap (λ n. pass_of n (told_by mark o retained) o.max_rounds o.min_cost) (sym is)
+
+  pub is_expr : {s : Mark} → o.pass ≡ Expr → s ≡ mark → simplify_spec s ≡ pass_by mark o retained
+  is_expr is e = ap simplify_spec e ∙ by_name is
+
+  pub is_branch : {s : Mark} → o.pass ≡ Branch → s ≡ mark → remove_spec s ≡ pass_by mark o retained
+  is_branch is e = ap remove_spec e ∙ by_name is
+
+  pub is_dce : {s : Told} → o.pass ≡ Dce → s ≡ told_by mark o retained → shake_spec s ≡ pass_by mark o retained
+  is_dce is e = ap shake_spec e ∙ by_name is
+
+  pub is_json : {least : ℕ} → o.pass ≡ Json → least ≡ o.min_cost → json_spec least ≡ pass_by mark o retained
+  is_json is e = ap json_spec e ∙ by_name is
+
+  -- what a configuration tells that has these options
+  pub told_is : (c : Config) → c.top_level ≡ o.top_level → map string_bytes c.top_retain.items ≡ retained → c.preserve_imports_with_side_effects ≡ o.preserve_imports_with_side_effects → told mark c ≡ told_by mark o retained
+  told_is c a b d = rw (a, b, d) refl
+
+-- what a pass answers, the same pass does
+pub answers_as : {A E : Type 0} (f : A → Tree) (r : Result A E) (t : Tree) {p q : PassSpec} → p ≡ q → IfOk r (λ x. p.answers t (f x)) → IfOk r (λ x. q.answers t (f x))
+answers_as f r t is a = subst (λ q. IfOk r (λ x. q.answers t (f x))) is a
+
+-- what literals are replaced in stays resolved
+pub stays_resolved : {A E : Type 0} (f : A → Tree) (r : Result A E) (least n : ℕ) (t : Tree) → IfOk r (λ x. Parsed least t (f x)) → IfOk r (λ x. IsResolved n t → IsResolved n (f x))
+stays_resolved f r least n t a = IfOk-weaker r _ _ (λ x k. k.resolved n) a

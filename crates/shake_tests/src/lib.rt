@@ -1,0 +1,5 @@
+//! Tests of the program's work.
+#![tactic(auto)]
+
+#[cfg(test)]
+mod runs;
