@@ -1,6 +1,6 @@
 //! Public calls that no text reaches.
-use crate::build::{module, number, param, param_with_default, span, statement};
 use std::alloc::Global;
+use std::mem;
 use std::process::Abort;
 use std::test::Fail;
 use stmt_like::StmtLike;
@@ -13,6 +13,7 @@ use swc_optimization::{Config, simplifier};
 use swc_pass::{CompilerPass, Pass};
 use swc_text::{print, read_expr, read_module, read_script};
 use swc_utils::{ExprCtx, ExprExt, Value, preserve_effects};
+use test_trees::{module, number, param, param_with_default, span, statement};
 
 /// Tries what a pass tells of itself, before and behind a run.
 fn tries<P: Pass + CompilerPass>(
@@ -125,7 +126,8 @@ fn tries_item<T: StmtLike + Drop>(rt: &impl Abort, item: T, is_stmt: bool) {
 fn statements_are_items(rt: HostRuntime) -> Result<(), Fail> {
     let alloc = rt.alloc();
     let mark = Mark::new(1).expect(&rt, "1 is a mark");
-    for item in read_module(alloc, "import 'm';", mark)?.body {
+    let mut module = read_module(alloc, "import 'm';", mark)?;
+    for item in mem::replace(&mut module.body, Vec::new(alloc)) {
         tries_item(&rt, item, false);
     }
     let item = <ModuleItem as StmtLike>::from(statement(alloc, number(1))?);

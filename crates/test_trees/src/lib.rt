@@ -1,4 +1,6 @@
-//! Parts of trees.
+//! Parts of trees that tests build by hand.
+#![tactic(auto)]
+
 use std::alloc::{AllocError, Global};
 use swc_ast::{
     AssignPat, BlockStmt, Decl, Expr, ExprStmt, FnDecl, Function, Ident, IdentName, Lit, Mark,
@@ -6,17 +8,17 @@ use swc_ast::{
     VarDeclarator,
 };
 
-pub(crate) fn span() -> Span {
+pub fn span() -> Span {
     Span { lo: 0, hi: 0 }
 }
 
-pub(crate) fn number(value: i64) -> Expr {
+pub fn number(value: i64) -> Expr {
     let span = span();
     Expr::Lit(Lit::Num(Number { span, value }))
 }
 
 /// A name under the mark of a number; 0 stands for the empty context.
-pub(crate) fn ident(alloc: Global, text: &str, mark: u32) -> Result<Ident, AllocError> {
+pub fn ident(alloc: Global, text: &str, mark: u32) -> Result<Ident, AllocError> {
     let sym = String::from_str(alloc, text)?;
     let ctxt = match Mark::new(mark) {
         Some(mark) => SyntaxContext::empty().apply_mark(mark),
@@ -29,20 +31,20 @@ pub(crate) fn ident(alloc: Global, text: &str, mark: u32) -> Result<Ident, Alloc
     })
 }
 
-pub(crate) fn word(alloc: Global, text: &str) -> Result<IdentName, AllocError> {
+pub fn word(alloc: Global, text: &str) -> Result<IdentName, AllocError> {
     let sym = String::from_str(alloc, text)?;
     let span = span();
     Ok(IdentName { span, sym })
 }
 
-pub(crate) fn statement(alloc: Global, e: Expr) -> Result<Stmt, AllocError> {
+pub fn statement(alloc: Global, e: Expr) -> Result<Stmt, AllocError> {
     let expr = Box::new(alloc, e)?;
     let span = span();
     Ok(Stmt::Expr(ExprStmt { span, expr }))
 }
 
 /// `let x;`, or `var` or `const`.
-pub(crate) fn declare(alloc: Global, kind: VarDeclKind, mark: u32) -> Result<Stmt, AllocError> {
+pub fn declare(alloc: Global, kind: VarDeclKind, mark: u32) -> Result<Stmt, AllocError> {
     let name = ident(alloc, "x", mark)?;
     let init = None;
     let span = span();
@@ -50,18 +52,18 @@ pub(crate) fn declare(alloc: Global, kind: VarDeclKind, mark: u32) -> Result<Stm
     Ok(Stmt::Decl(Decl::Var(VarDecl { span, kind, decls })))
 }
 
-pub(crate) fn block(stmts: Vec<Stmt>) -> Stmt {
+pub fn block(stmts: Vec<Stmt>) -> Stmt {
     let span = span();
     Stmt::Block(BlockStmt { span, stmts })
 }
 
 /// `x`, as a parameter.
-pub(crate) fn param(alloc: Global, mark: u32) -> Result<Pat, AllocError> {
+pub fn param(alloc: Global, mark: u32) -> Result<Pat, AllocError> {
     Ok(Pat::Ident(ident(alloc, "x", mark)?))
 }
 
 /// `x = 1`, as a parameter.
-pub(crate) fn param_with_default(alloc: Global, mark: u32) -> Result<Pat, AllocError> {
+pub fn param_with_default(alloc: Global, mark: u32) -> Result<Pat, AllocError> {
     let left = ident(alloc, "x", mark)?;
     let right = Box::new(alloc, number(1))?;
     let span = span();
@@ -69,11 +71,7 @@ pub(crate) fn param_with_default(alloc: Global, mark: u32) -> Result<Pat, AllocE
 }
 
 /// `function f(params) { stmts }`
-pub(crate) fn function(
-    alloc: Global,
-    params: Vec<Pat>,
-    stmts: Vec<Stmt>,
-) -> Result<Stmt, AllocError> {
+pub fn function(alloc: Global, params: Vec<Pat>, stmts: Vec<Stmt>) -> Result<Stmt, AllocError> {
     let ident = ident(alloc, "f", 2)?;
     let span = span();
     let body = BlockStmt { span, stmts };
@@ -81,7 +79,7 @@ pub(crate) fn function(
     Ok(Stmt::Decl(Decl::Fn(FnDecl { ident, function })))
 }
 
-pub(crate) fn module(alloc: Global, s: Stmt) -> Result<Module, AllocError> {
+pub fn module(alloc: Global, s: Stmt) -> Result<Module, AllocError> {
     let body = vec![in alloc; ModuleItem::Stmt(s)]?;
     let span = span();
     Ok(Module { span, body })

@@ -2,7 +2,6 @@
 ghost use Rattle.std.specs.Prelude.{◌≡◌, ◌≤◌, IfOk, IsFalse};
 ghost use Rattle.swc_ast.specs.declared.expressions.Expr.{size-Expr};
 
-use crate::build::{ident, module, number, span, statement};
 use std::alloc::{AllocError, Global};
 use std::mem;
 use std::test::Fail;
@@ -14,6 +13,7 @@ use swc_walk::{
     ListPlace, Place, Rules, rewrite, walk_decl, walk_expr, walk_list, walk_module, walk_script,
     walk_stmt,
 };
+use test_trees::{ident, module, number, span, statement};
 
 #[derive(Drop)]
 struct Unassign {}

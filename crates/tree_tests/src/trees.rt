@@ -1,8 +1,4 @@
 //! Trees that no text has: which are valid, which are resolved and which are core.
-use crate::build::{
-    block, declare, function, ident, module, number, param, param_with_default, span, statement,
-    word,
-};
 use std::alloc::{AllocError, Global};
 use std::test::Fail;
 use swc_ast::{
@@ -14,6 +10,10 @@ use swc_debug::{is_script_valid, is_valid};
 use swc_resolved::{
     is_core, is_resolved, is_script_core, is_script_resolved, is_script_valid_and_resolved,
     is_valid_and_resolved,
+};
+use test_trees::{
+    block, declare, function, ident, module, number, param, param_with_default, span, statement,
+    word,
 };
 
 fn script(alloc: Global, s: Stmt) -> Result<Script, AllocError> {
@@ -73,12 +73,12 @@ fn invalid_trees_are_told(rt: HostRuntime) -> Result<(), Fail> {
     for (i, s) in stmts.into_iter().enumerate() {
         let (a, b) = (script(alloc, s.clone()?)?, module(alloc, s)?);
         assert!(rt;
-            !is_script_valid(&a) && is_script_resolved(&a, mark)?,
+            !is_script_valid(&a) && is_script_resolved(alloc, &a, mark)?,
             "{i}"
         );
-        assert!(rt; !is_valid(&b) && is_resolved(&b, mark)?, "{i}");
-        assert!(rt; !is_script_valid_and_resolved(&a, mark)?, "{i}");
-        assert!(rt; !is_valid_and_resolved(&b, mark)?, "{i}");
+        assert!(rt; !is_valid(&b) && is_resolved(alloc, &b, mark)?, "{i}");
+        assert!(rt; !is_script_valid_and_resolved(alloc, &a, mark)?, "{i}");
+        assert!(rt; !is_valid_and_resolved(alloc, &b, mark)?, "{i}");
     }
     Ok(())
 }
@@ -129,12 +129,12 @@ fn unresolved_trees_are_told(rt: HostRuntime) -> Result<(), Fail> {
     for (i, s) in stmts.into_iter().enumerate() {
         let (a, b) = (script(alloc, s.clone()?)?, module(alloc, s)?);
         assert!(rt;
-            is_script_valid(&a) && !is_script_resolved(&a, mark)?,
+            is_script_valid(&a) && !is_script_resolved(alloc, &a, mark)?,
             "{i}"
         );
-        assert!(rt; is_valid(&b) && !is_resolved(&b, mark)?, "{i}");
-        assert!(rt; !is_script_valid_and_resolved(&a, mark)?, "{i}");
-        assert!(rt; !is_valid_and_resolved(&b, mark)?, "{i}");
+        assert!(rt; is_valid(&b) && !is_resolved(alloc, &b, mark)?, "{i}");
+        assert!(rt; !is_script_valid_and_resolved(alloc, &a, mark)?, "{i}");
+        assert!(rt; !is_valid_and_resolved(alloc, &b, mark)?, "{i}");
     }
     Ok(())
 }
@@ -157,8 +157,11 @@ fn exports_are_bound_by_the_module(rt: HostRuntime) -> Result<(), Fail> {
         ]?;
         let export = ModuleDecl::ExportNamed(NamedExport { span, specifiers });
         m.body.push(ModuleItem::ModuleDecl(export))?;
-        assert!(rt; is_resolved(&m, mark)? == is_bound, "{text}");
-        assert!(rt; is_valid_and_resolved(&m, mark)? == is_bound, "{text}");
+        assert!(rt; is_resolved(alloc, &m, mark)? == is_bound, "{text}");
+        assert!(rt;
+            is_valid_and_resolved(alloc, &m, mark)? == is_bound,
+            "{text}"
+        );
     }
     Ok(())
 }
@@ -211,10 +214,10 @@ fn trees_of_the_core_are_told(rt: HostRuntime) -> Result<(), Fail> {
     for stmts in [cores(alloc)?, functions(alloc)?] {
         for (i, (s, wanted)) in stmts.into_iter().enumerate() {
             assert!(rt;
-                is_script_core(&script(alloc, s.clone()?)?)? == wanted,
+                is_script_core(alloc, &script(alloc, s.clone()?)?)? == wanted,
                 "{i}"
             );
-            assert!(rt; is_core(&module(alloc, s)?)? == wanted, "{i}");
+            assert!(rt; is_core(alloc, &module(alloc, s)?)? == wanted, "{i}");
         }
     }
     Ok(())

@@ -132,7 +132,7 @@ fn deep_and_wide_texts_are_read(rt: HostRuntime) -> Result<(), Fail> {
         wide_function(alloc, 20000)?,
     ] {
         let module = read_module(alloc, text.as_str(), mark)?;
-        assert!(rt; is_resolved(&module, mark)? && is_core(&module)?);
+        assert!(rt; is_resolved(alloc, &module, mark)? && is_core(alloc, &module)?);
     }
     Ok(())
 }
