@@ -1,0 +1,3 @@
+export function scale(number) {
+    return number * 2 * 3;
+}
