@@ -5,4 +5,3 @@ pub mod Walk
 pub mod Cycles
 pub mod Givable
 pub mod Formed
-pub mod Faults
