@@ -1,0 +1,5 @@
+//! Tests of given expressions.
+#![tactic(auto)]
+
+#[cfg(test)]
+mod globals;
