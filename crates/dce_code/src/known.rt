@@ -47,7 +47,7 @@ fn is_unresolved(ctx: ExprCtx, name: &Ident) -> bool
 }
 
 impl<'a> Known<'a> {
-    /// Whether a name may go: its text isn't retained.
+    /// Whether a name may go: its text isn't retained. All retained texts are looked at, so it is asked last.
     fn may_go(&self, name: &Ident) -> bool
         ensures { result ≡ may_go self.now (ident_name name.now) }
     {
@@ -73,16 +73,16 @@ impl<'a> Known<'a> {
     pub fn is_free(&self, name: &Ident) -> bool
         ensures { result ≡ (shaker self.now).free (ident_name name.now) }
     {
-        self.may_go(name) && self.uses.is_free(name) && self.is_inner(name)
+        self.uses.is_free(name) && self.is_inner(name) && self.may_go(name)
     }
 
     /// Whether plain assignments to a name go.
     pub fn is_unread(&self, name: &Ident) -> bool
         ensures { result ≡ (shaker self.now).unread (ident_name name.now) }
     {
-        self.may_go(name)
-            && self.uses.is_unread(name)
+        self.uses.is_unread(name)
             && !is_unresolved(self.ctx, name)
             && self.is_inward(name)
+            && self.may_go(name)
     }
 }

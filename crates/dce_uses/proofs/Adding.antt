@@ -1,12 +1,11 @@
 -- Facts that are noted one after another.
-use Rattle.std.proofs.Common.{◌≡◌, Bool, true, false, ◌||◌, ◌&&◌, List, [], ◌++◌, Option, Some, None, refl, sym, ap, ◌∙◌}
-use Rattle.std.specs.Prelude.{option_map}
+use Rattle.std.proofs.Common.{◌≡◌, Bool, true, false, ◌||◌, ◌&&◌, List, [], ◌++◌, refl, sym, ap, ◌∙◌}
 use Rattle.swc_ast.specs.Tree.{Name}
 use Rattle.swc_ast.specs.Scope.{has_name}
 use Rattle.swc_static.proofs.Names.{has_name_append}
 use Rattle.dce_uses.specs.declared.tally.Fact.{Fact}
 use Rattle.dce_uses.specs.declared.table.Table.{Table}
-use Rattle.dce_uses.specs.Tables.{Notes, fact_at}
+use Rattle.dce_uses.specs.Tables.{Notes, IsNumbered, fact_of}
 
 -- truth values
 
@@ -34,41 +33,44 @@ pub and_or : (a b c : Bool) → (a && (b || c)) ≡ ((a && b) || (a && c))
 and_or true b c = refl
 and_or false b c = refl
 
--- what may be known of a name
-
-pub kept : (o : Option Bool) → o ≡ option_map (λ b. b || false) o
-kept None = refl
-kept (Some b) = ap (λ c. Some c) (sym (or_false b))
-
-pub twice : (o : Option Bool) (a b : Bool) → option_map (λ c. c || b) (option_map (λ c. c || a) o) ≡ option_map (λ c. c || (a || b)) o
-twice None a b = refl
-twice (Some c) a b = ap (λ d. Some d) (or_grouped c a b)
-
 -- tables
 
 -- nothing was noted
 pub nothing : (u : Table) (more : Fact → Name → Bool) → ((f : Fact) (x : Name) → more f x ≡ false) → Notes u u more
-nothing u more h = λ f x. kept (fact_at u f x) ∙ ap (λ a. option_map (λ b. b || a) (fact_at u f x)) (sym (h f x))
+nothing u more h = record { numbered = λ k. k; facts = λ k f x. sym (ap (λ b. fact_of u f x || b) (h f x) ∙ or_false (fact_of u f x)) }
 
 -- one thing after another
 pub next : (u v w : Table) (a b : Fact → Name → Bool) → Notes u v a → Notes v w b → Notes u w (λ f x. a f x || b f x)
-next u v w a b first second = λ f x. second f x ∙ ap (λ o. option_map (λ c. c || b f x) o) (first f x) ∙ twice (fact_at u f x) (a f x) (b f x)
+next u v w a b first second = record {
+  numbered = λ k. second.numbered (first.numbered k);
+  facts = λ k f x. second.facts (first.numbered k) f x ∙ ap (λ c. c || b f x) (first.facts k f x) ∙ or_grouped (fact_of u f x) (a f x) (b f x);
+}
 
 -- the same facts, said otherwise
 pub said : (u v : Table) (a b : Fact → Name → Bool) → ((f : Fact) (x : Name) → a f x ≡ b f x) → Notes u v a → Notes u v b
-said u v a b same h = λ f x. h f x ∙ ap (λ c. option_map (λ d. d || c) (fact_at u f x)) (same f x)
+said u v a b same h = record { numbered = h.numbered; facts = λ k f x. h.facts k f x ∙ ap (λ c. fact_of u f x || c) (same f x) }
 
--- a list of facts that are noted one by one: what is left
-pub begins : (u : Table) (all : Fact → Name → Bool) → (f : Fact) (x : Name) → option_map (λ b. b || all f x) (fact_at u f x) ≡ option_map (λ b. b || all f x) (fact_at u f x)
-begins u all f x = refl
+-- facts that are noted one after another: what is left
+pub record Going (u v : Table) (all left : Fact → Name → Bool) : Type 0 where
+  pub numbered : IsNumbered u → IsNumbered v
+  pub facts : IsNumbered u → (f : Fact) (x : Name) → (fact_of v f x || left f x) ≡ (fact_of u f x || all f x)
 
-pub goes_on : (u v w : Table) (all here rest left : Fact → Name → Bool) → ((f : Fact) (x : Name) → left f x ≡ (here f x || rest f x)) → Notes v w here → ((f : Fact) (x : Name) → option_map (λ b. b || left f x) (fact_at v f x) ≡ option_map (λ b. b || all f x) (fact_at u f x)) → (f : Fact) (x : Name) → option_map (λ b. b || rest f x) (fact_at w f x) ≡ option_map (λ b. b || all f x) (fact_at u f x)
-goes_on u v w all here rest left split noted h f x =
-    ap (λ o. option_map (λ b. b || rest f x) o) (noted f x) ∙ twice (fact_at v f x) (here f x) (rest f x)
-    ∙ ap (λ c. option_map (λ b. b || c) (fact_at v f x)) (sym (split f x)) ∙ h f x
+pub begins : (u : Table) (all : Fact → Name → Bool) → Going u u all all
+begins u all = record { numbered = λ k. k; facts = λ k f x. refl }
 
-pub ends : (u v : Table) (all left : Fact → Name → Bool) → ((f : Fact) (x : Name) → left f x ≡ false) → ((f : Fact) (x : Name) → option_map (λ b. b || left f x) (fact_at v f x) ≡ option_map (λ b. b || all f x) (fact_at u f x)) → Notes u v all
-ends u v all left none h = λ f x. kept (fact_at v f x) ∙ ap (λ a. option_map (λ b. b || a) (fact_at v f x)) (sym (none f x)) ∙ h f x
+pub goes_on : (u v w : Table) (all here rest left : Fact → Name → Bool) → ((f : Fact) (x : Name) → left f x ≡ (here f x || rest f x)) → Notes v w here → Going u v all left → Going u w all rest
+goes_on u v w all here rest left split noted h = record {
+  numbered = λ k. noted.numbered (h.numbered k);
+  facts = λ k f x.
+      ap (λ b. b || rest f x) (noted.facts (h.numbered k) f x) ∙ or_grouped (fact_of v f x) (here f x) (rest f x)
+      ∙ ap (λ b. fact_of v f x || b) (sym (split f x)) ∙ h.facts k f x;
+}
+
+pub ends : (u v : Table) (all left : Fact → Name → Bool) → ((f : Fact) (x : Name) → left f x ≡ false) → Going u v all left → Notes u v all
+ends u v all left none h = record {
+  numbered = h.numbered;
+  facts = λ k f x. sym (ap (λ b. fact_of v f x || b) (none f x) ∙ or_false (fact_of v f x)) ∙ h.facts k f x;
+}
 
 -- names in a row
 

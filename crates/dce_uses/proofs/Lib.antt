@@ -1,9 +1,9 @@
 mod Adding
-mod Searches
 mod Counting
-mod Lists
 mod Numbering
+mod Searches
+mod Seeing
+mod Lists
 mod Telling
-mod Absent
 mod Told
 mod Unexported

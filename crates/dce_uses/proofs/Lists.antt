@@ -1,6 +1,5 @@
 -- Names that stand in lists, and those that items export.
 use Rattle.std.proofs.Common.{◌≡◌, Bool, true, false, ◌||◌, List, [], ◌++◌, sym, ap, ◌∙◌}
-use Rattle.std.specs.Prelude.{option_map}
 use Rattle.swc_ast.specs.Tree.{Name, Label, Tree, node, Forest, ε, ◌⊳◌}
 use Rattle.swc_visit.specs.Nodes.{label_of, children_of}
 use Rattle.dce_uses.specs.declared.tally.Fact.{Fact}
@@ -8,15 +7,15 @@ use Rattle.dce_uses.specs.declared.listed.Part.{Part}
 use Rattle.dce_uses.specs.declared.table.Table.{Table}
 use Rattle.dce_uses.specs.Listed.{listed_name, listed}
 use Rattle.dce_uses.specs.Exports.{declaration_names, first_names, item_names, exported_names, is_nameless, any_nameless}
-use Rattle.dce_uses.specs.Tables.{Notes, fact_at}
-use Rattle.dce_uses.proofs.Adding.{noted_apart, none_named, goes_on, ends}
+use Rattle.dce_uses.specs.Tables.{Notes}
+use Rattle.dce_uses.proofs.Adding.{Going, noted_apart, none_named, goes_on, ends}
 use Rattle.dce_uses.proofs.Counting.{alone}
 
 -- names in a row: the first of them were noted
 
 -- what is left to note
 abbrev pub Left : Table → Table → (Fact → Bool) → List Name → List Name → Type 0
-Left u v g all left = (f : Fact) (x : Name) → option_map (λ b. b || alone g left f x) (fact_at v f x) ≡ option_map (λ b. b || alone g all f x) (fact_at u f x)
+Left u v g all left = Going u v (alone g all) (alone g left)
 
 pub more_names : (u v w : Table) (g : Fact → Bool) (all left here rest : List Name) → left ≡ here ++ rest → Notes v w (alone g here) → Left u v g all left → Left u w g all rest
 more_names u v w g all left here rest split h k = goes_on u v w (alone g all) (alone g here) (alone g rest) (alone g left) (λ f x. ap (λ xs. alone g xs f x) split ∙ noted_apart g f x here rest) h k

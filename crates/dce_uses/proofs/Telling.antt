@@ -9,11 +9,10 @@ use Rattle.swc_ast.specs.Tree.{Name, Label, same_name, Tree, node, Forest, ε, �
 use Rattle.swc_ast.specs.Scope.{is_function, has_name}
 use Rattle.swc_ast.specs.Reach.{named_by, declares, named_outside, outside_in}
 use Rattle.dce_rules.specs.Uses.{target_read, read_by, read_in, read_among, declared_by_node, declared_in, declared_among, is_eval, calls_eval, any_eval, is_argument, argument_among, seen_by_eval, eval_among}
-use Rattle.dce_uses.specs.declared.place.Evals.TheVariants as evals
 use Rattle.dce_uses.specs.declared.place.Place.{Place}
 use Rattle.dce_uses.specs.declared.tally.Fact.TheVariants as fact
-use Rattle.dce_uses.specs.Noted.{function_name, is_plain, reads, writes, evals_below, is_called, is_own_argument, below, noted, noted_among}
-use Rattle.dce_uses.proofs.Adding.{or_false, or_grouped, or_swap, and_false}
+use Rattle.dce_uses.specs.Noted.{function_name, is_plain, reads, writes, is_own_argument, below, noted, noted_among}
+use Rattle.dce_uses.proofs.Adding.{or_false, or_true, or_swap, and_false}
 
 -- truth values
 
@@ -39,7 +38,7 @@ read_as x l = refl
 
 mutual
   pub readings : (x : Name) (p : Place) (t : Tree) → noted fact.Read x p t ≡ read_in x t
-  readings x p (node l ss cs) = ap₂ (λ a b. a || b) (or_false (reads l && has_name x (named_by l)) ∙ read_as x l) (readings_among x (below p l cs) cs)
+  readings x p (node l ss cs) = or_false (((reads l && has_name x (named_by l)) || false) || noted_among fact.Read x (below p l) cs) ∙ ap₂ (λ a b. a || b) (or_false (reads l && has_name x (named_by l)) ∙ read_as x l) (readings_among x (below p l) cs)
 
   readings_among : (x : Name) (p : Place) (ts : Forest) → noted_among fact.Read x p ts ≡ read_among x ts
   readings_among x p ε = refl
@@ -47,7 +46,7 @@ mutual
 
 mutual
   pub declarations : (x : Name) (p : Place) (t : Tree) → noted fact.Declared x p t ≡ declared_in x t
-  declarations x p (node l ss cs) = ap₂ (λ a b. a || b) (or_false (has_name x (declared_by_node l))) (declarations_among x (below p l cs) cs)
+  declarations x p (node l ss cs) = or_false (has_name x (declared_by_node l) || noted_among fact.Declared x (below p l) cs) ∙ ap (λ b. has_name x (declared_by_node l) || b) (declarations_among x (below p l) cs)
 
   declarations_among : (x : Name) (p : Place) (ts : Forest) → noted_among fact.Declared x p ts ≡ declared_among x ts
   declarations_among x p ε = refl
@@ -70,42 +69,32 @@ named_split x (tree.Assign op y) = target_named (not (is_plain op)) (same_name x
 named_split x (tree.Update op prefix y) = or_again (same_name x y || false)
 named_split x l = sym (or_false (has_name x (named_by l)))
 
-joined : (b r w n used wrote outside : Bool) → n ≡ (r || w) → (used || wrote) ≡ outside → ((if b then false else ((r || false) || used)) || (if b then false else ((w || false) || wrote))) ≡ (if b then false else (n || outside))
+joined : (b r w n used wrote outside : Bool) → n ≡ (r || w) → (used || wrote) ≡ outside → ((if b then false else (((r || false) || used) || false)) || (if b then false else (((w || false) || wrote) || false))) ≡ (if b then false else (n || outside))
 joined true r w n used wrote outside split rest = refl
 joined false r w n used wrote outside split rest =
-    ap₂ (λ a b. (a || used) || (b || wrote)) (or_false r) (or_false w) ∙ or_mix r used w wrote ∙ ap₂ (λ a b. a || b) (sym split) rest
+    ap₂ (λ a b. a || b) (or_false ((r || false) || used)) (or_false ((w || false) || wrote)) ∙ ap₂ (λ a b. (a || used) || (b || wrote)) (or_false r) (or_false w) ∙ or_mix r used w wrote ∙ ap₂ (λ a b. a || b) (sym split) rest
 
 mutual
   pub namings : (x : Name) (p : Place) (t : Tree) → (noted fact.Used x p t || noted fact.Written x p t) ≡ named_outside x t
   namings x p (node l ss cs) =
-      joined (has_name x (function_name l)) (reads l && has_name x (named_by l)) (writes l && has_name x (named_by l)) (has_name x (named_by l)) (noted_among fact.Used x (below p l cs) cs) (noted_among fact.Written x (below p l cs) cs) (outside_in x cs) (named_split x l) (namings_among x (below p l cs) cs)
+      joined (has_name x (function_name l)) (reads l && has_name x (named_by l)) (writes l && has_name x (named_by l)) (has_name x (named_by l)) (noted_among fact.Used x (below p l) cs) (noted_among fact.Written x (below p l) cs) (outside_in x cs) (named_split x l) (namings_among x (below p l) cs)
       ∙ ap (λ b. if b then false else (has_name x (named_by l) || outside_in x cs)) (own_function x l)
 
   namings_among : (x : Name) (p : Place) (ts : Forest) → (noted_among fact.Used x p ts || noted_among fact.Written x p ts) ≡ outside_in x ts
   namings_among x p ε = refl
   namings_among x p (t ⊳ ts) = or_mix (noted fact.Used x p t) (noted_among fact.Used x p ts) (noted fact.Written x p t) (noted_among fact.Written x p ts) ∙ ap₂ (λ a b. a || b) (namings x p t) (namings_among x p ts)
 
--- where `eval` is called in a function round the place
+-- inside a function only parameters of functions that name `arguments` are hidden
 
 mutual
-  called : (x : Name) (p : Place) (t : Tree) → p.evals ≡ evals.Called → noted fact.Hidden x p t ≡ (declared_in x t || is_argument x t)
-  called x p (node l ss cs) is =
-      ap₂ (λ e b. ((is_called e && has_name x (declared_by_node l)) || is_own_argument x l cs) || b) is (called_among x (below p l cs) cs (ap (evals_below l cs) is))
-      ∙ or_mix (has_name x (declared_by_node l)) (is_own_argument x l cs) (declared_among x cs) (argument_among x cs)
+  inside : (x : Name) (p : Place) (t : Tree) → p.is_inside ≡ true → noted fact.Hidden x p t ≡ is_argument x t
+  inside x p (node l ss cs) is =
+      ap₂ (λ b o. b || (is_own_argument x l cs || (not o && (is_function l && (any_eval cs && declared_among x cs))))) (inside_among x (below p l) cs (ap (λ b. is_function l || b) is ∙ or_true (is_function l))) is
+      ∙ ap (λ b. argument_among x cs || b) (or_false (is_own_argument x l cs)) ∙ or_swap (argument_among x cs) (is_own_argument x l cs)
 
-  called_among : (x : Name) (p : Place) (ts : Forest) → p.evals ≡ evals.Called → noted_among fact.Hidden x p ts ≡ (declared_among x ts || argument_among x ts)
-  called_among x p ε is = refl
-  called_among x p (t ⊳ ts) is = ap₂ (λ a b. a || b) (called x p t is) (called_among x p ts is) ∙ or_mix (declared_in x t) (is_argument x t) (declared_among x ts) (argument_among x ts)
-
--- where it isn't
-
-mutual
-  uncalled : (x : Name) (p : Place) (t : Tree) → p.evals ≡ evals.Free → noted fact.Hidden x p t ≡ is_argument x t
-  uncalled x p (node l ss cs) is = ap₂ (λ e b. ((is_called e && has_name x (declared_by_node l)) || is_own_argument x l cs) || b) is (uncalled_among x (below p l cs) cs (ap (evals_below l cs) is))
-
-  uncalled_among : (x : Name) (p : Place) (ts : Forest) → p.evals ≡ evals.Free → noted_among fact.Hidden x p ts ≡ argument_among x ts
-  uncalled_among x p ε is = refl
-  uncalled_among x p (t ⊳ ts) is = ap₂ (λ a b. a || b) (uncalled x p t is) (uncalled_among x p ts is)
+  inside_among : (x : Name) (p : Place) (ts : Forest) → p.is_inside ≡ true → noted_among fact.Hidden x p ts ≡ argument_among x ts
+  inside_among x p ε is = refl
+  inside_among x p (t ⊳ ts) is = ap₂ (λ a b. a || b) (inside x p t is) (inside_among x p ts is)
 
 -- what `eval` sees
 
@@ -142,23 +131,37 @@ absorbed true e h = refl
 absorbed false true h = h refl
 absorbed false false h = refl
 
-below_outside : (a d e g noted : Bool) (function eval : Bool) → (e ≡ true → d ≡ true) → (eval ≡ false → e ≡ false) → noted ≡ (if function then (if eval then (d || a) else a) else (a || e)) → (g || noted) ≡ ((g || a) || ((function && (eval && d)) || e))
-below_outside a d e g noted true true within none is = ap (λ b. g || b) (is ∙ or_swap d a ∙ ap (λ b. a || b) (absorbed d e within)) ∙ sym (or_grouped g a (d || e))
-below_outside a d e g noted true false within none is = ap (λ b. g || b) is ∙ sym (or_false (g || a)) ∙ ap (λ b. (g || a) || b) (sym (none refl))
-below_outside a d e g noted false eval within none is = ap (λ b. g || b) is ∙ sym (or_grouped g a e)
+turned : (a g d : Bool) → (a || (g || d)) ≡ ((g || a) || d)
+turned true true d = refl
+turned true false d = refl
+turned false true d = refl
+turned false false d = refl
 
-hidings_by : (x : Name) (p : Place) (ts : Forest) (function eval : Bool) → p.evals ≡ (if function then (if eval then evals.Called else evals.Free) else evals.Outside) → (p.evals ≡ evals.Outside → noted_among fact.Hidden x p ts ≡ (argument_among x ts || eval_among x ts)) → noted_among fact.Hidden x p ts ≡ (if function then (if eval then (declared_among x ts || argument_among x ts) else argument_among x ts) else (argument_among x ts || eval_among x ts))
-hidings_by x p ts true true is rest = called_among x p ts is
-hidings_by x p ts true false is rest = uncalled_among x p ts is
-hidings_by x p ts false eval is rest = rest is
+regrouped : (a e g : Bool) → ((a || e) || (g || false)) ≡ ((g || a) || e)
+regrouped true e true = refl
+regrouped true e false = refl
+regrouped false true true = refl
+regrouped false false true = refl
+regrouped false true false = refl
+regrouped false false false = refl
+
+-- a function that stands in no other, or a node that is none
+outermost : (a d e g : Bool) (function eval : Bool) (below : Bool) → (e ≡ true → d ≡ true) → (eval ≡ false → e ≡ false) → below ≡ (if function then a else (a || e)) → (below || (g || (function && (eval && d)))) ≡ ((g || a) || ((function && (eval && d)) || e))
+outermost a d e g true true below within none is = ap (λ b. b || (g || d)) is ∙ turned a g d ∙ ap (λ b. (g || a) || b) (absorbed d e within)
+outermost a d e g true false below within none is = ap (λ b. b || (g || false)) is ∙ turned a g false ∙ ap (λ b. (g || a) || b) (sym (none refl))
+outermost a d e g false eval below within none is = ap (λ b. b || (g || false)) is ∙ regrouped a e g
+
+hidings_by : (x : Name) (p : Place) (ts : Forest) (function : Bool) → p.is_inside ≡ function → (p.is_inside ≡ false → noted_among fact.Hidden x p ts ≡ (argument_among x ts || eval_among x ts)) → noted_among fact.Hidden x p ts ≡ (if function then argument_among x ts else (argument_among x ts || eval_among x ts))
+hidings_by x p ts true is rest = inside_among x p ts is
+hidings_by x p ts false is rest = rest is
 
 mutual
-  pub hidings : (x : Name) (p : Place) (t : Tree) → p.evals ≡ evals.Outside → noted fact.Hidden x p t ≡ (is_argument x t || seen_by_eval x t)
+  pub hidings : (x : Name) (p : Place) (t : Tree) → p.is_inside ≡ false → noted fact.Hidden x p t ≡ (is_argument x t || seen_by_eval x t)
   hidings x p (node l ss cs) is =
-      ap (λ e. ((is_called e && has_name x (declared_by_node l)) || is_own_argument x l cs) || noted_among fact.Hidden x (below p l cs) cs) is
-      ∙ below_outside (argument_among x cs) (declared_among x cs) (eval_among x cs) (is_own_argument x l cs) (noted_among fact.Hidden x (below p l cs) cs) (is_function l) (any_eval cs) (seen_among x cs) (unseen_among x cs)
-      (hidings_by x (below p l cs) cs (is_function l) (any_eval cs) (ap (evals_below l cs) is) (λ q. hidings_among x (below p l cs) cs q))
+      ap (λ o. noted_among fact.Hidden x (below p l) cs || (is_own_argument x l cs || (not o && (is_function l && (any_eval cs && declared_among x cs))))) is
+      ∙ outermost (argument_among x cs) (declared_among x cs) (eval_among x cs) (is_own_argument x l cs) (is_function l) (any_eval cs) (noted_among fact.Hidden x (below p l) cs) (seen_among x cs) (unseen_among x cs)
+      (hidings_by x (below p l) cs (is_function l) (ap (λ b. is_function l || b) is ∙ or_false (is_function l)) (λ q. hidings_among x (below p l) cs q))
 
-  hidings_among : (x : Name) (p : Place) (ts : Forest) → p.evals ≡ evals.Outside → noted_among fact.Hidden x p ts ≡ (argument_among x ts || eval_among x ts)
+  hidings_among : (x : Name) (p : Place) (ts : Forest) → p.is_inside ≡ false → noted_among fact.Hidden x p ts ≡ (argument_among x ts || eval_among x ts)
   hidings_among x p ε is = refl
   hidings_among x p (t ⊳ ts) is = ap₂ (λ a b. a || b) (hidings x p t is) (hidings_among x p ts is) ∙ or_mix (is_argument x t) (seen_by_eval x t) (argument_among x ts) (eval_among x ts)

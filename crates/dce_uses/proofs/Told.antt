@@ -1,7 +1,5 @@
 -- What a table tells at the end.
-use Rattle.std.proofs.Common.{◌≡◌, ℕ, Bool, true, false, not, ◌||◌, ◌&&◌, List, [], ◌∷◌, ◌++◌, Option, Some, None, position, refl, sym, ap, ap₂, ◌∙◌}
-use Rattle.std.specs.Prelude.{option_map, unwrap_or}
-use Rattle.std.proofs.lemmas.Bool.{or_from}
+use Rattle.std.proofs.Common.{◌≡◌, Bool, true, false, not, ◌||◌, ◌&&◌, List, [], ◌∷◌, ◌++◌, Some, None, refl, sym, ap, ap₂, ◌∙◌}
 use Rattle.swc_ast.specs.Tree as tree
 use Rattle.swc_ast.specs.declared.Span.{Span}
 use Rattle.swc_ast.specs.Tree.{Text, Name, Label, same_name, Tree, node, Forest, ε, ◌⊳◌}
@@ -9,7 +7,7 @@ use Rattle.swc_ast.specs.Scope.{has_name, default_name, declarator_name, declara
 use Rattle.swc_ast.specs.Run.{own_texts, specifier_exports, item_exports, exported}
 use Rattle.swc_ast.specs.Reach.{is_exported}
 use Rattle.swc_static.proofs.Names.{has_name_append}
-use Rattle.swc_names.specs.Names.{mentioned, distinct}
+use Rattle.swc_visit.specs.Nodes.{label_of, children_of}
 use Rattle.dce_rules.specs.Uses.{is_argument, seen_by_eval, is_export_of, is_used_unnamed}
 use Rattle.dce_uses.specs.declared.listed.Part.TheVariants as part
 use Rattle.dce_uses.specs.declared.tally.Fact.{Fact}
@@ -19,12 +17,10 @@ use Rattle.dce_uses.specs.declared.uses.Uses.{Uses}
 use Rattle.dce_uses.specs.Noted.{is_hiding, noted, at_top}
 use Rattle.dce_uses.specs.Listed.{listed}
 use Rattle.dce_uses.specs.Exports.{first_names, item_names, exported_names, is_nameless, any_nameless}
-use Rattle.dce_uses.specs.Tables.{Notes, Tells, fact_at, fact_of, is_default, is_hidden}
+use Rattle.dce_uses.specs.Tables.{IsBlank, Notes, Tells, fact_of, is_default, is_hidden}
 use Rattle.dce_uses.proofs.Adding.{next, or_false, or_true, or_grouped, or_swap, and_false}
 use Rattle.dce_uses.proofs.Counting.{alone}
-use Rattle.dce_uses.proofs.Numbering.{unnumbered}
 use Rattle.dce_uses.proofs.Telling.{readings, declarations, namings, hidings}
-use Rattle.dce_uses.proofs.Absent.{absent, exports_absent, once_each}
 
 -- what is exported
 
@@ -73,15 +69,6 @@ exported_as x (node l ss cs ⊳ ts) =
     ∙ spread (has_name x (item_names l cs)) (is_nameless l) (has_name x (exported_names ts)) (any_nameless ts) (same_name x default_name)
     ∙ ap (λ b. b || ((is_nameless l || any_nameless ts) && same_name x default_name)) (sym (has_name_append x (item_names l cs) (exported_names ts)))
 
--- what is known of each name
-
-pub known : (u w : Table) (names : List Name) (more : Fact → Name → Bool) → ((f : Fact) (x : Name) → fact_at u f x ≡ option_map (λ n. false) (position (same_name x) names)) → Notes u w more → ((f : Fact) (x : Name) → has_name x names ≡ false → more f x ≡ false) → (f : Fact) (x : Name) → fact_of w f x ≡ more f x
-known u w names more empty notes none f x = by (position (same_name x) names) refl
-  where
-    by : (o : Option ℕ) → position (same_name x) names ≡ o → fact_of w f x ≡ more f x
-    by (Some n) is = ap (λ a. unwrap_or a false) (notes f x ∙ ap (option_map (λ b. b || more f x)) (empty f x ∙ ap (option_map (λ n. false)) is))
-    by None is = ap (λ a. unwrap_or a false) (notes f x ∙ ap (option_map (λ b. b || more f x)) (empty f x ∙ ap (option_map (λ n. false)) is)) ∙ sym (none f x (unnumbered x names is))
-
 -- a table tells what a tree says
 
 plus_nothing : (a b : Bool) → (a || (false && b)) ≡ a
@@ -101,23 +88,43 @@ tells u t exports facts said = record {
     hidden : (x : Name) → is_hidden u x ≡ is_used_unnamed x t
     hidden x = ap (λ b. b || is_default u x) (facts fact.Hidden x ∙ ap (λ b. b || (true && exports x)) (hidings x at_top t refl)) ∙ hidden_as (is_argument x t || seen_by_eval x t) (exports x) (is_default u x) (is_export_of x t) (said x)
 
+-- facts of a table in which nothing was noted before
+pub known : (u w : Table) (more : Fact → Name → Bool) → IsBlank u → Notes u w more → (f : Fact) (x : Name) → fact_of w f x ≡ more f x
+known u w more blank notes f x = notes.facts blank.numbered f x ∙ ap (λ b. b || more f x) (blank.facts f x)
+
 -- a module
 
-pub module_told : (u : Uses) (start counted : Table) (names : List Name) (ss : List Span) (items : Forest) → names ≡ distinct (mentioned items) → ((f : Fact) (x : Name) → fact_at start f x ≡ option_map (λ n. false) (position (same_name x) names)) → Notes start counted (λ f x. noted f x at_top (node tree.Module ss items)) → Notes counted u.table (alone is_hiding (exported_names items)) → u.exports_default ≡ any_nameless items → Tells u (node tree.Module ss items)
-module_told u start counted names ss items numbered empty counts exports unnamed =
+pub module_told : (u : Uses) (start counted : Table) (ss : List Span) (items : Forest) → IsBlank start → Notes start counted (λ f x. noted f x at_top (node tree.Module ss items)) → Notes counted u.table (alone is_hiding (exported_names items)) → u.exports_default ≡ any_nameless items → Tells u (node tree.Module ss items)
+module_told u start counted ss items blank counts exports unnamed =
     let t = node tree.Module ss items in
     tells u t (λ x. has_name x (exported_names items))
-    (known start u.table names (λ f x. noted f x at_top t || alone is_hiding (exported_names items) f x) empty (next start counted u.table (λ f x. noted f x at_top t) (alone is_hiding (exported_names items)) counts exports)
-    (λ f x none. let away = sym (once_each x (mentioned items)) ∙ sym (ap (has_name x) numbered) ∙ none in or_from (noted f x at_top t) (alone is_hiding (exported_names items) f x) (absent f x at_top t away) (ap (λ b. is_hiding f && b) (exports_absent x items away) ∙ and_false (is_hiding f))))
+    (known start u.table (λ f x. noted f x at_top t || alone is_hiding (exported_names items) f x) blank (next start counted u.table (λ f x. noted f x at_top t) (alone is_hiding (exported_names items)) counts exports))
     (λ x. exported_as x items ∙ ap (λ b. has_name x (exported_names items) || (b && same_name x default_name)) (sym unnamed))
+
+-- an item by itself
+
+in_module : (f : Fact) (x : Name) (t : Tree) → noted f x at_top (node tree.Module [] (t ⊳ ε)) ≡ noted f x at_top t
+in_module fact.Used x t = or_false _ ∙ or_false _
+in_module fact.Written x t = or_false _ ∙ or_false _
+in_module fact.Read x t = or_false _ ∙ or_false _
+in_module fact.Abroad x t = or_false _ ∙ or_false _
+in_module fact.Declared x t = or_false _ ∙ or_false _
+in_module fact.Held x t = or_false _ ∙ or_false _
+in_module fact.Hidden x t = or_false _ ∙ or_false _
+
+pub item_told : (u : Uses) (start counted : Table) (t : Tree) → IsBlank start → Notes start counted (λ f x. noted f x at_top t) → Notes counted u.table (alone is_hiding (item_names (label_of t) (children_of t))) → u.exports_default ≡ is_nameless (label_of t) → Tells u (node tree.Module [] (t ⊳ ε))
+item_told u start counted (node l ss cs) blank counts exports unnamed =
+    let t = node l ss cs in
+    tells u (node tree.Module [] (t ⊳ ε)) (λ x. has_name x (item_names l cs))
+    (λ f x. known start u.table (λ f x. noted f x at_top t || alone is_hiding (item_names l cs) f x) blank (next start counted u.table (λ f x. noted f x at_top t) (alone is_hiding (item_names l cs)) counts exports) f x
+    ∙ ap (λ b. b || alone is_hiding (item_names l cs) f x) (sym (in_module f x t)))
+    (λ x. exported_append x (item_exports l cs) [] ∙ or_false (is_exported x (item_exports l cs)) ∙ item_exported x l cs ∙ ap (λ b. has_name x (item_names l cs) || (b && same_name x default_name)) (sym unnamed))
 
 -- a script
 
-pub script_told : (u : Uses) (start : Table) (names : List Name) (ss : List Span) (stmts : Forest) → names ≡ distinct (mentioned stmts) → ((f : Fact) (x : Name) → fact_at start f x ≡ option_map (λ n. false) (position (same_name x) names)) → Notes start u.table (λ f x. noted f x at_top (node tree.Script ss stmts)) → u.exports_default ≡ false → Tells u (node tree.Script ss stmts)
-script_told u start names ss stmts numbered empty counts unnamed =
+pub script_told : (u : Uses) (start : Table) (ss : List Span) (stmts : Forest) → IsBlank start → Notes start u.table (λ f x. noted f x at_top (node tree.Script ss stmts)) → u.exports_default ≡ false → Tells u (node tree.Script ss stmts)
+script_told u start ss stmts blank counts unnamed =
     let t = node tree.Script ss stmts in
     tells u t (λ x. false)
-    (λ f x. known start u.table names (λ f x. noted f x at_top t) empty counts
-    (λ f x none. absent f x at_top t (sym (once_each x (mentioned stmts)) ∙ sym (ap (has_name x) numbered) ∙ none)) f x
-    ∙ sym (ap (λ b. noted f x at_top t || b) (and_false (is_hiding f)) ∙ or_false (noted f x at_top t)))
+    (λ f x. known start u.table (λ f x. noted f x at_top t) blank counts f x ∙ sym (ap (λ b. noted f x at_top t || b) (and_false (is_hiding f)) ∙ or_false (noted f x at_top t)))
     (λ x. sym (ap (λ b. b && same_name x default_name) unnamed))

@@ -2,3 +2,4 @@ pub mod Noted
 pub mod Listed
 pub mod Exports
 pub mod Tables
+pub mod Sights

@@ -7,9 +7,7 @@ use Rattle.swc_ast.specs.Tree.{Name, Label, Assign, Update, Params, Block, Decla
 use Rattle.swc_ast.specs.Scope.{is_function, has_name, option_name, param_names}
 use Rattle.swc_ast.specs.Resolved.{params_of}
 use Rattle.swc_ast.specs.Reach.{named_by}
-use Rattle.dce_rules.specs.Uses.{has_arguments, any_arguments, any_eval, declared_by_node}
-use Rattle.dce_uses.specs.declared.place.Evals.{Evals}
-use Rattle.dce_uses.specs.declared.place.Evals.TheVariants as evals
+use Rattle.dce_rules.specs.Uses.{has_arguments, any_arguments, any_eval, declared_by_node, declared_among}
 use Rattle.dce_uses.specs.declared.place.Place.{Place}
 use Rattle.dce_uses.specs.declared.tally.Fact.{Fact}
 use Rattle.dce_uses.specs.declared.tally.Fact.TheVariants as fact
@@ -55,23 +53,13 @@ lets_go p (FnDecl x) = p.in_function
 lets_go p (Declarator Var x) = p.in_function
 lets_go p l = p.in_block
 
--- what is known of calls of `eval` among the children of a node
-abbrev pub evals_below : Label → Forest → Evals → Evals
-evals_below l cs evals.Outside = if is_function l then (if any_eval cs then evals.Called else evals.Free) else evals.Outside
-evals_below l cs e = e
-
--- whether a function round a place calls `eval`
-abbrev pub is_called : Evals → Bool
-is_called evals.Called = true
-is_called _ = false
-
 -- the place of a node's children
-abbrev pub below : Place → Label → Forest → Place
-below p l cs = record { in_function = has_arguments l || p.in_function; in_block = is_block l || p.in_block; in_declaration = is_declaration l || p.in_declaration; evals = evals_below l cs p.evals }
+abbrev pub below : Place → Label → Place
+below p l = record { in_function = has_arguments l || p.in_function; in_block = is_block l || p.in_block; in_declaration = is_declaration l || p.in_declaration; is_inside = is_function l || p.is_inside }
 
 -- the place of a whole module
 abbrev pub at_top : Place
-at_top = record { in_function = false; in_block = false; in_declaration = false; evals = evals.Outside }
+at_top = record { in_function = false; in_block = false; in_declaration = false; is_inside = false }
 
 -- what a node says of the name that it reads or writes
 abbrev pub naming : Fact → Place → Label → Bool
@@ -85,7 +73,6 @@ naming _ p l = false
 abbrev pub declaring : Fact → Place → Label → Bool
 declaring fact.Declared p l = true
 declaring fact.Held p l = not (lets_go p l)
-declaring fact.Hidden p l = is_called p.evals
 declaring _ p l = false
 
 -- that a name is used without being named
@@ -105,13 +92,25 @@ by_declaring f x p l = declaring f p l && has_name x (declared_by_node l)
 abbrev pub is_own_argument : Name → Label → Forest → Bool
 is_own_argument x l cs = has_arguments l && (any_arguments cs && has_name x (param_names (params_of cs)))
 
+-- whether a name is declared in a function that stands in no other and calls `eval`, in itself or further in
+abbrev pub is_seen : Name → Place → Label → Forest → Bool
+is_seen x p l cs = not p.is_inside && (is_function l && (any_eval cs && declared_among x cs))
+
 -- what a function says of its parameters by naming `arguments`
 abbrev pub by_arguments : Fact → Name → Label → Forest → Bool
 by_arguments f x l cs = is_hiding f && is_own_argument x l cs
 
+-- what a function says of the names that are declared in it by calling `eval`
+abbrev pub by_eval : Fact → Name → Place → Label → Forest → Bool
+by_eval f x p l cs = is_hiding f && is_seen x p l cs
+
 -- what a node says by itself
-abbrev pub own : Fact → Name → Place → Label → Forest → Bool
-own f x p l cs = by_naming f x p l || (by_declaring f x p l || by_arguments f x l cs)
+abbrev pub own : Fact → Name → Place → Label → Bool
+own f x p l = by_naming f x p l || by_declaring f x p l
+
+-- what a function says without naming anything
+abbrev pub unnamed : Fact → Name → Place → Label → Forest → Bool
+unnamed f x p l cs = by_arguments f x l cs || by_eval f x p l cs
 
 -- uses and writes of a function's own name don't count inside its declaration
 abbrev pub is_counted : Fact → Bool
@@ -122,7 +121,7 @@ is_counted _ = false
 abbrev mutual
   -- what a tree says of a name
   pub noted : Fact → Name → Place → Tree → Bool
-  noted f x p (node l ss cs) = if is_counted f && has_name x (function_name l) then false else (own f x p l cs || noted_among f x (below p l cs) cs)
+  noted f x p (node l ss cs) = if is_counted f && has_name x (function_name l) then false else ((own f x p l || noted_among f x (below p l) cs) || unnamed f x p l cs)
 
   pub noted_among : Fact → Name → Place → Forest → Bool
   noted_among f x p ε = false
@@ -130,4 +129,4 @@ abbrev mutual
 
 -- the same of a node by its parts
 abbrev pub noted_at : Fact → Name → Place → Label → Forest → Bool
-noted_at f x p l cs = if is_counted f && has_name x (function_name l) then false else (own f x p l cs || noted_among f x (below p l cs) cs)
+noted_at f x p l cs = if is_counted f && has_name x (function_name l) then false else ((own f x p l || noted_among f x (below p l) cs) || unnamed f x p l cs)

@@ -1,5 +1,5 @@
 -- What a table tells of names.
-use Rattle.std.specs.Prelude.{Bool, true, false, not, ◌≡◌, ◌==◌, ◌&&◌, ◌||◌, if◌then◌else◌, List, [], Option, option_map, option_and_then, position, slice_get, unwrap_or}
+use Rattle.std.specs.Prelude.{Bool, true, false, not, ◌≡◌, ◌&&◌, ◌||◌, if◌then◌else◌, ℕ, List, [], length, Option, Some, option_map, option_and_then, position, slice_get, unwrap_or}
 use Rattle.swc_ast.specs.Tree.{Name, same_name, Tree}
 use Rattle.swc_ast.specs.Scope.{has_name, default_name}
 use Rattle.dce_rules.specs.Uses.{free_to_go, is_unread}
@@ -12,8 +12,8 @@ use Rattle.dce_uses.specs.Noted.{noted, at_top, is_counted}
 
 -- whether a fact was noted
 abbrev pub holds : Tally → Fact → Bool
-holds t fact.Used = not (t.uses == 0)
-holds t fact.Written = not (t.writes == 0)
+holds t fact.Used = t.uses
+holds t fact.Written = t.writes
 holds t fact.Read = t.is_read
 holds t fact.Abroad = t.is_abroad
 holds t fact.Declared = t.is_declared
@@ -24,16 +24,18 @@ holds t fact.Hidden = t.is_hidden
 abbrev pub tally_of : Table → Name → Option Tally
 tally_of u x = option_and_then (slice_get u.tallies.items) (position (same_name x) u.names)
 
-abbrev pub fact_at : Table → Fact → Name → Option Bool
-fact_at u f x = option_map (λ t. holds t f) (tally_of u x)
-
--- A table becomes another by noting facts.
-abbrev pub Notes : Table → Table → (Fact → Name → Bool) → Type 0
-Notes u v more = (f : Fact) (x : Name) → fact_at v f x ≡ option_map (λ b. b || more f x) (fact_at u f x)
-
 -- what was noted of a name, nothing where it has no number
 abbrev pub fact_of : Table → Fact → Name → Bool
-fact_of u f x = unwrap_or (fact_at u f x) false
+fact_of u f x = unwrap_or (option_map (λ t. holds t f) (tally_of u x)) false
+
+-- Each name of a table has a tally.
+abbrev pub IsNumbered : Table → Type 0
+IsNumbered u = length u.tallies.items ≡ length u.names
+
+-- A table becomes another by noting facts.
+pub record Notes (u v : Table) (more : Fact → Name → Bool) : Type 0 where
+  pub numbered : IsNumbered u → IsNumbered v
+  pub facts : IsNumbered u → (f : Fact) (x : Name) → fact_of v f x ≡ (fact_of u f x || more f x)
 
 -- the name of a default export that has no other
 abbrev pub is_default : Uses → Name → Bool
@@ -66,10 +68,22 @@ pub record Tells (u : Uses) (t : Tree) : Type 0 where
   pub held : (x : Name) → is_held u x ≡ noted fact.Held x at_top t
   pub abroad : (x : Name) → is_abroad u x ≡ noted fact.Abroad x at_top t
 
--- A table becomes another where the counters of some names are those of before.
-abbrev pub Restores : Table → Table → List Name → Option Tally → Type 0
-Restores u v xs before = (f : Fact) (x : Name) → fact_at v f x ≡ (if is_counted f && has_name x xs then option_map (λ b. unwrap_or (option_map (λ t. holds t f) before) b) (fact_at u f x) else fact_at u f x)
+-- A table of which nothing was noted.
+pub record IsBlank (u : Table) : Type 0 where
+  pub numbered : IsNumbered u
+  pub facts : (f : Fact) (x : Name) → fact_of u f x ≡ false
+
+-- A name has a number in a table, and nothing was noted beside that.
+pub record Numbers (u v : Table) (y : Name) (n : ℕ) : Type 0 where
+  pub numbered : IsNumbered u → IsNumbered v
+  pub number : position (same_name y) v.names ≡ Some n
+  pub facts : IsNumbered u → (f : Fact) (x : Name) → fact_of v f x ≡ fact_of u f x
+
+-- A table becomes another where uses and writes of some names are those of before.
+pub record Restores (u v : Table) (xs : List Name) (before : Tally) : Type 0 where
+  pub numbered : IsNumbered u → IsNumbered v
+  pub facts : IsNumbered u → (f : Fact) (x : Name) → fact_of v f x ≡ (if is_counted f && has_name x xs then holds before f else fact_of u f x)
 
 -- what was noted of the names in a list, which are one at most
-abbrev pub IsBefore : Table → List Name → Option Tally → Type 0
-IsBefore u xs before = (x : Name) → has_name x xs ≡ true → before ≡ tally_of u x
+abbrev pub IsBefore : Table → List Name → Tally → Type 0
+IsBefore u xs before = (f : Fact) (x : Name) → has_name x xs ≡ true → holds before f ≡ fact_of u f x

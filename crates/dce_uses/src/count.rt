@@ -1,18 +1,24 @@
 //! The walk that counts.
-ghost use Rattle.std.specs.Prelude.{◌≡◌};
+ghost use Rattle.std.specs.Prelude.{◌≡◌, ◌&&◌, OnOk, IfOk};
 ghost use Rattle.swc_visit.specs.Kinds.{kind_label};
 ghost use Rattle.swc_visit.specs.Nodes.{node_tree, children_forest};
 ghost use Rattle.swc_names.specs.Ids.{optional};
+ghost use Rattle.dce_rules.specs.Uses.{declared_among};
 ghost use Rattle.dce_uses.specs.Noted as noted;
+ghost use Rattle.dce_uses.specs.Sights.{Sees, SeesAmong};
 ghost use Rattle.dce_uses.specs.Tables.{Notes, IsBefore, holds};
 ghost use Rattle.dce_uses.specs.declared.tally.Fact as facts;
 
-use crate::labels::{declared_name, function_name, has_arguments, is_read, is_written, named};
+use crate::labels::{
+    declared_name, function_name, has_arguments, is_function, is_read, is_written, named,
+};
 use crate::listed::Part;
 use crate::place::Place;
-use crate::scans::{any_arguments, params_of};
+use crate::scans::params_of;
+use crate::seen::Seen;
 use crate::table::Table;
-use crate::tally::{Tally, once};
+use crate::tally::Tally;
+use std::alloc::AllocError;
 use swc_ast::Ident;
 use swc_visit::{Children, Kind, Node};
 
@@ -22,8 +28,8 @@ fn naming(kind: Kind<'_>, place: Place) -> Tally
 {
     let is_read = is_read(kind);
     Tally {
-        uses: once(is_read),
-        writes: once(is_written(kind)),
+        uses: is_read,
+        writes: is_written(kind),
         is_read,
         is_abroad: !place.in_declaration,
         ..Tally::empty()
@@ -37,84 +43,143 @@ fn declaring(kind: Kind<'_>, place: Place) -> Tally
     Tally {
         is_declared: true,
         is_held: !place.lets_go(kind),
-        is_hidden: place.is_seen(),
         ..Tally::empty()
     }
 }
 
 impl Table {
-    /// Notes what a tree says of names.
+    /// Notes what a tree says of names. Gives what is seen in it beside that.
     #[cycle(count)]
-    pub(crate) fn count(&mut self, n: Node<'_>, place: Place)
-        ensures { Notes self.old self.new (λ f x. noted.noted f x place (node_tree n.entry)) }
+    pub(crate) fn count(&mut self, n: Node<'_>, place: Place) -> Result<Seen, AllocError>
+        ensures notes { OnOk result (Notes self.old self.new (λ f x. noted.noted f x place (node_tree n.entry))) }
+        ensures seen { IfOk result (λ s. Sees s (node_tree n.entry)) }
     {
         let opened = n.open();
         let function = function_name(opened.kind);
         let before = self.tally_before(function);
-        self.note(opened.kind, opened.children, place);
-        self.count_all(opened.children, place.below(opened.kind, opened.children));
-        self.restore(function, before);
+        self.note(opened.kind, place)?;
+        let inside = self.count_all(opened.children, place.below(opened.kind))?;
+        self.note_unnamed(opened.kind, opened.children, place, inside)?;
+        self.restore(function, before)?;
+        Ok(inside.with(opened.kind))
     }
 
-    /// Notes what trees say of names.
+    /// Notes what trees say of names. Gives what is seen in them.
     #[cycle(count)]
-    fn count_all(&mut self, children: Children<'_>, place: Place)
-        ensures { Notes self.old self.new (λ f x. noted.noted_among f x place (children_forest children.entry)) }
+    fn count_all(&mut self, children: Children<'_>, place: Place) -> Result<Seen, AllocError>
+        ensures notes { OnOk result (Notes self.old self.new (λ f x. noted.noted_among f x place (children_forest children.entry))) }
+        ensures seen { IfOk result (λ s. SeesAmong s (children_forest children.entry)) }
     {
+        let mut seen = Seen::nothing();
         let mut left = children;
         while let Some((child, rest)) = left.next() {
-            self.count(child, place);
+            let more = self.count(child, place)?;
+            seen = seen.or(more);
             left = rest;
         }
+        Ok(seen)
     }
 
     /// Notes what a node says by itself.
-    fn note(&mut self, kind: Kind<'_>, children: Children<'_>, place: Place)
-        ensures { Notes self.old self.new (λ f x. noted.own f x place (kind_label kind.entry) (children_forest children.entry)) }
+    fn note(&mut self, kind: Kind<'_>, place: Place) -> Result<(), AllocError>
+        ensures { OnOk result (Notes self.old self.new (λ f x. noted.own f x place (kind_label kind.entry))) }
     {
-        self.note_named(kind, place);
-        self.note_declared(kind, place);
-        self.note_arguments(kind, children);
+        self.note_named(kind, place)?;
+        self.note_declared(kind, place)
     }
 
     /// Notes the name that a node reads or writes.
-    fn note_named(&mut self, kind: Kind<'_>, place: Place)
-        ensures { Notes self.old self.new (λ f x. noted.by_naming f x place (kind_label kind.entry)) }
+    fn note_named(&mut self, kind: Kind<'_>, place: Place) -> Result<(), AllocError>
+        ensures { OnOk result (Notes self.old self.new (λ f x. noted.by_naming f x place (kind_label kind.entry))) }
     {
-        if let Some(name) = named(kind) {
-            self.add_all(name, naming(kind, place));
+        match named(kind) {
+            Some(name) => self.add_all(name, naming(kind, place)),
+            None => Ok(()),
         }
     }
 
     /// Notes the name that a node declares.
-    fn note_declared(&mut self, kind: Kind<'_>, place: Place)
-        ensures { Notes self.old self.new (λ f x. noted.by_declaring f x place (kind_label kind.entry)) }
+    fn note_declared(&mut self, kind: Kind<'_>, place: Place) -> Result<(), AllocError>
+        ensures { OnOk result (Notes self.old self.new (λ f x. noted.by_declaring f x place (kind_label kind.entry))) }
     {
-        if let Some(name) = declared_name(kind) {
-            self.add_all(name, declaring(kind, place));
+        match declared_name(kind) {
+            Some(name) => self.add_all(name, declaring(kind, place)),
+            None => Ok(()),
         }
+    }
+
+    /// Notes the names that a function uses without naming them, by what is seen among its children.
+    fn note_unnamed(
+        &mut self,
+        kind: Kind<'_>,
+        children: Children<'_>,
+        place: Place,
+        inside: Seen,
+    ) -> Result<(), AllocError>
+        requires { SeesAmong inside (children_forest children) }
+        ensures { OnOk result (Notes self.old self.new (λ f x. noted.unnamed f x place (kind_label kind.entry) (children_forest children.entry))) }
+    {
+        self.note_arguments(kind, children, inside)?;
+        self.note_seen(kind, children, place, inside)
     }
 
     /// Notes the parameters of a function that names `arguments`.
-    fn note_arguments(&mut self, kind: Kind<'_>, children: Children<'_>)
-        ensures { Notes self.old self.new (λ f x. noted.by_arguments f x (kind_label kind.entry) (children_forest children.entry)) }
+    fn note_arguments(
+        &mut self,
+        kind: Kind<'_>,
+        children: Children<'_>,
+        inside: Seen,
+    ) -> Result<(), AllocError>
+        requires { SeesAmong inside (children_forest children) }
+        ensures { OnOk result (Notes self.old self.new (λ f x. noted.by_arguments f x (kind_label kind.entry) (children_forest children.entry))) }
     {
-        if !has_arguments(kind) {
-            return;
+        if has_arguments(kind) && inside.arguments {
+            self.note_listed(params_of(children), Part::Params)
+        } else {
+            Ok(())
         }
-        if !any_arguments(children) {
-            return;
+    }
+
+    /// Notes the names that are declared in a function that calls `eval`, unless it stands in another.
+    fn note_seen(
+        &mut self,
+        kind: Kind<'_>,
+        children: Children<'_>,
+        place: Place,
+        inside: Seen,
+    ) -> Result<(), AllocError>
+        requires { SeesAmong inside (children_forest children) }
+        ensures { OnOk result (Notes self.old self.new (λ f x. noted.by_eval f x place (kind_label kind.entry) (children_forest children.entry))) }
+    {
+        if !place.is_inside && is_function(kind) && inside.eval {
+            self.hide_declared(children)
+        } else {
+            Ok(())
         }
-        self.note_listed(params_of(children), Part::Params);
+    }
+
+    /// Notes that the names which trees declare are used without being named.
+    #[cycle(hide_declared)]
+    fn hide_declared(&mut self, children: Children<'_>) -> Result<(), AllocError>
+        ensures { OnOk result (Notes self.old self.new (λ f x. noted.is_hiding f && declared_among x (children_forest children.entry))) }
+    {
+        let mut left = children;
+        while let Some((child, rest)) = left.next() {
+            let opened = child.open();
+            self.hide(declared_name(opened.kind))?;
+            self.hide_declared(opened.children)?;
+            left = rest;
+        }
+        Ok(())
     }
 
     /// What was noted of a function's name in front of its declaration.
-    fn tally_before(&self, function: Option<&Ident>) -> Option<Tally>
+    fn tally_before(&self, function: Option<&Ident>) -> Tally
         ensures { IsBefore self.now (optional function.entry) result }
     {
         match function {
             Some(name) => self.tally(name),
-            None => None,
+            None => Tally::empty(),
         }
     }
 }

@@ -40,7 +40,7 @@ pub(crate) fn is_written(kind: Kind<'_>) -> bool
 }
 
 /// The name that a node itself reads, writes or exports.
-pub(crate) fn named<'a>(kind: Kind<'a>) -> Option<&'a Ident>
+pub fn named<'a>(kind: Kind<'a>) -> Option<&'a Ident>
     ensures { optional result ≡ named_by (kind_label kind.entry) }
 {
     match kind {
@@ -56,7 +56,7 @@ pub(crate) fn named<'a>(kind: Kind<'a>) -> Option<&'a Ident>
 }
 
 /// The name that a node itself declares.
-pub(crate) fn declared_name<'a>(kind: Kind<'a>) -> Option<&'a Ident>
+pub fn declared_name<'a>(kind: Kind<'a>) -> Option<&'a Ident>
     ensures { optional result ≡ uses.declared_by_node (kind_label kind.entry) }
 {
     match kind {

@@ -7,8 +7,10 @@ mod labels;
 mod listed;
 mod place;
 mod scans;
+mod seen;
 mod table;
 mod tally;
 mod uses;
 
-pub use uses::Uses;
+pub use labels::{declared_name, named};
+pub use uses::{Uses, is_default};

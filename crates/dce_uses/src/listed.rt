@@ -1,5 +1,5 @@
 //! Names that stand in a list: parameters, declarators and specifiers.
-ghost use Rattle.std.specs.Prelude.{◌≡◌, ◌&&◌};
+ghost use Rattle.std.specs.Prelude.{◌≡◌, ◌&&◌, OnOk};
 ghost use Rattle.swc_ast.specs.Scope.{has_name};
 ghost use Rattle.swc_visit.specs.Kinds.{kind_label};
 ghost use Rattle.swc_visit.specs.Nodes.{children_forest};
@@ -9,6 +9,7 @@ ghost use Rattle.dce_uses.specs.Noted.{is_hiding};
 ghost use Rattle.dce_uses.specs.Tables.{Notes};
 
 use crate::table::Table;
+use std::alloc::AllocError;
 use swc_ast::Ident;
 use swc_visit::{Children, Kind};
 
@@ -43,13 +44,18 @@ fn name_in_list<'a>(kind: Kind<'a>, part: Part) -> Option<&'a Ident>
 
 impl Table {
     /// Notes that the names of a list are used without being named.
-    pub(crate) fn note_listed(&mut self, children: Children<'_>, part: Part)
-        ensures { Notes self.old self.new (λ f x. is_hiding f && has_name x (listed part (children_forest children.entry))) }
+    pub(crate) fn note_listed(
+        &mut self,
+        children: Children<'_>,
+        part: Part,
+    ) -> Result<(), AllocError>
+        ensures { OnOk result (Notes self.old self.new (λ f x. is_hiding f && has_name x (listed part (children_forest children.entry)))) }
     {
         let mut left = children;
         while let Some((child, rest)) = left.next() {
-            self.hide(name_in_list(child.open().kind, part));
+            self.hide(name_in_list(child.open().kind, part))?;
             left = rest;
         }
+        Ok(())
     }
 }

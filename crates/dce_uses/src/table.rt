@@ -1,11 +1,10 @@
 //! A table of what a tree says of its names.
-ghost use Rattle.std.specs.Prelude.{◌≡◌, ◌&&◌, IfOk, false, [], ◌∷◌, option_map, position};
+ghost use Rattle.std.specs.Prelude.{◌≡◌, ◌&&◌, IfOk, OnOk, [], ◌∷◌};
 ghost use Rattle.swc_ast.specs.Parts.{ident_name};
 ghost use Rattle.swc_ast.specs.Scope.{has_name};
-ghost use Rattle.swc_ast.specs.Tree.{Name, same_name};
 ghost use Rattle.swc_names.specs.Ids.{optional};
 ghost use Rattle.dce_uses.specs.Noted.{is_hiding};
-ghost use Rattle.dce_uses.specs.Tables.{Notes, Restores, tally_of, fact_at, holds};
+ghost use Rattle.dce_uses.specs.Tables.{IsBlank, Notes, Numbers, Restores, fact_of, holds};
 ghost use Rattle.dce_uses.specs.declared.tally.Fact as facts;
 
 use crate::tally::Tally;
@@ -13,7 +12,7 @@ use std::alloc::{AllocError, Global};
 use swc_ast::Ident;
 use swc_names::Names;
 
-/// The names of a tree, and what was noted of each.
+/// The names of a tree, and what was noted of each. Names get their numbers as they are noted.
 #[derive(Drop)]
 pub(crate) struct Table {
     names: Names,
@@ -21,62 +20,73 @@ pub(crate) struct Table {
 }
 
 impl Table {
-    /// Names of which nothing was noted.
-    pub(crate) fn new(alloc: Global, names: Names) -> Result<Table, AllocError>
-        ensures { IfOk result (λ u. (f : facts.Fact) (x : Name) → fact_at u f x ≡ option_map (λ n. false) (position (same_name x) names)) }
+    /// A table without names.
+    pub(crate) fn new(alloc: Global) -> Table
+        ensures { IsBlank result }
     {
-        let tallies = vec![in alloc; Tally::empty(); names.len()]?;
-        Ok(Table { names, tallies })
+        Table {
+            names: Names::empty(alloc),
+            tallies: Vec::new(alloc),
+        }
     }
 
-    /// What was noted of a name, if it has a number.
-    pub(crate) fn tally(&self, name: &Ident) -> Option<Tally>
-        ensures { result ≡ tally_of self.now (ident_name name.now) }
+    /// What was noted of a name, nothing where it has no number.
+    pub(crate) fn tally(&self, name: &Ident) -> Tally
+        ensures { (f : facts.Fact) → holds result f ≡ fact_of self.now f (ident_name name.now) }
     {
-        let number = self.names.number_of(name)?;
+        let Some(number) = self.names.number_of(name) else {
+            return Tally::empty();
+        };
         if number < self.tallies.len() {
-            Some(self.tallies[number])
+            self.tallies[number]
         } else {
-            None
+            Tally::empty()
         }
+    }
+
+    /// The number of a name, a new one where it has none.
+    fn number(&mut self, name: &Ident) -> Result<usize, AllocError>
+        ensures { IfOk result (λ n. Numbers self.old self.new (ident_name name.now) n) }
+    {
+        let number = self.names.add(name)?;
+        if number >= self.tallies.len() {
+            self.tallies.push(Tally::empty())?;
+        }
+        Ok(number)
     }
 
     /// Notes more of a name.
-    pub(crate) fn add_all(&mut self, name: &Ident, more: Tally)
-        ensures { Notes self.old self.new (λ f x. holds more f && has_name x (ident_name name.now ∷ [])) }
+    pub(crate) fn add_all(&mut self, name: &Ident, more: Tally) -> Result<(), AllocError>
+        ensures { OnOk result (Notes self.old self.new (λ f x. holds more f && has_name x (ident_name name.now ∷ []))) }
     {
-        let Some(number) = self.names.number_of(name) else {
-            return;
-        };
+        let number = self.number(name)?;
         if number < self.tallies.len() {
             self.tallies[number] = self.tallies[number].and(more);
         }
+        Ok(())
     }
 
     /// Notes that a name, if there is one, is used without being named.
-    pub(crate) fn hide(&mut self, name: Option<&Ident>)
-        ensures { Notes self.old self.new (λ f x. is_hiding f && has_name x (optional name.entry)) }
+    pub(crate) fn hide(&mut self, name: Option<&Ident>) -> Result<(), AllocError>
+        ensures { OnOk result (Notes self.old self.new (λ f x. is_hiding f && has_name x (optional name.entry))) }
     {
-        if let Some(name) = name {
-            self.add_all(name, Tally::hidden());
+        match name {
+            Some(name) => self.add_all(name, Tally::hidden()),
+            None => Ok(()),
         }
     }
 
-    /// The counters of a name become those of before: what was counted since doesn't count.
-    pub(crate) fn restore(&mut self, name: Option<&Ident>, before: Option<Tally>)
-        ensures { Restores self.old self.new (optional name.entry) before }
+    /// Uses and writes of a name, if there is one, become those of before: what was counted since doesn't count.
+    pub(crate) fn restore(&mut self, name: Option<&Ident>, before: Tally) -> Result<(), AllocError>
+        ensures { OnOk result (Restores self.old self.new (optional name.entry) before) }
     {
         let Some(name) = name else {
-            return;
+            return Ok(());
         };
-        let Some(before) = before else {
-            return;
-        };
-        let Some(number) = self.names.number_of(name) else {
-            return;
-        };
+        let number = self.number(name)?;
         if number < self.tallies.len() {
             self.tallies[number] = self.tallies[number].counted_as(before);
         }
+        Ok(())
     }
 }

@@ -1,5 +1,5 @@
 //! What is noted of one name.
-ghost use Rattle.std.specs.Prelude.{◌≡◌, ◌==◌, ◌||◌, not, false, if◌then◌else◌};
+ghost use Rattle.std.specs.Prelude.{◌≡◌, ◌||◌, false, if◌then◌else◌};
 ghost use Rattle.dce_uses.specs.Tables.{holds};
 ghost use Rattle.dce_uses.specs.Noted.{is_counted, is_hiding};
 ghost use Rattle.dce_uses.specs.declared.tally.Fact as facts;
@@ -23,23 +23,16 @@ pub(crate) enum Fact {
     Hidden,
 }
 
-/// What was noted of a name. The counters stay at the greatest number: all that is asked is whether one is 0.
+/// What was noted of a name. All that is asked of uses and writes is whether there are any.
 #[derive(Clone, Copy)]
 pub(crate) struct Tally {
-    pub(crate) uses: u32,
-    pub(crate) writes: u32,
+    pub(crate) uses: bool,
+    pub(crate) writes: bool,
     pub(crate) is_read: bool,
     pub(crate) is_abroad: bool,
     pub(crate) is_declared: bool,
     pub(crate) is_held: bool,
     pub(crate) is_hidden: bool,
-}
-
-/// A counter of what happened once, or not at all.
-pub(crate) fn once(happened: bool) -> u32
-    ensures { not (result == 0) ≡ happened }
-{
-    u32::from(happened)
 }
 
 impl Tally {
@@ -48,8 +41,8 @@ impl Tally {
         ensures { (f : facts.Fact) → holds result f ≡ false }
     {
         Tally {
-            uses: 0,
-            writes: 0,
+            uses: false,
+            writes: false,
             is_read: false,
             is_abroad: false,
             is_declared: false,
@@ -63,8 +56,8 @@ impl Tally {
         ensures { result ≡ holds self fact }
     {
         match fact {
-            Fact::Used => self.uses != 0,
-            Fact::Written => self.writes != 0,
+            Fact::Used => self.uses,
+            Fact::Written => self.writes,
             Fact::Read => self.is_read,
             Fact::Abroad => self.is_abroad,
             Fact::Declared => self.is_declared,
@@ -88,8 +81,8 @@ impl Tally {
         ensures { (f : facts.Fact) → holds result f ≡ (holds self f || holds other f) }
     {
         Tally {
-            uses: self.uses.saturating_add(other.uses),
-            writes: self.writes.saturating_add(other.writes),
+            uses: self.uses || other.uses,
+            writes: self.writes || other.writes,
             is_read: self.is_read || other.is_read,
             is_abroad: self.is_abroad || other.is_abroad,
             is_declared: self.is_declared || other.is_declared,
@@ -98,7 +91,7 @@ impl Tally {
         }
     }
 
-    /// The same with the counters of another.
+    /// The same with the uses and writes of another.
     pub(crate) fn counted_as(self, other: Tally) -> Tally
         ensures { (f : facts.Fact) → holds result f ≡ (if is_counted f then holds other f else holds self f) }
     {

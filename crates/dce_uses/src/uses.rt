@@ -1,20 +1,20 @@
 //! How the names of a tree are used.
-ghost use Rattle.std.specs.Prelude.{◌≡◌, IfOk, IfErr};
+ghost use Rattle.std.specs.Prelude.{◌≡◌, [], IfOk, IfErr};
 ghost use Rattle.swc_ast.specs.Modules.{module_tree, script_tree};
 ghost use Rattle.swc_ast.specs.Parts.{ident_name};
 ghost use Rattle.swc_ast.specs.Scope.{default_name};
-ghost use Rattle.swc_ast.specs.Tree.{same_name};
+ghost use Rattle.swc_ast.specs.Tree as trees;
+ghost use Rattle.swc_ast.specs.Tree.{same_name, node, ε, ◌⊳◌};
 ghost use Rattle.swc_ast.specs.declared.errors.PassError.TheVariants.{OutOfMemory};
+ghost use Rattle.swc_visit.specs.Nodes.{node_tree};
 ghost use Rattle.dce_uses.specs.Tables as tables;
-ghost use Rattle.dce_uses.specs.declared.tally.Fact as facts;
 
-use crate::exports::any_nameless;
+use crate::exports::{any_nameless, is_nameless};
 use crate::place::Place;
 use crate::table::Table;
-use crate::tally::{Fact, Tally};
+use crate::tally::Fact;
 use std::alloc::Global;
 use swc_ast::{Ident, Module, PassError, Script, SyntaxContext};
-use swc_names::Names;
 use swc_visit::Node;
 
 /// How the names of a module or a script are used, in all its places.
@@ -25,7 +25,7 @@ pub struct Uses {
 }
 
 /// Whether a name is that of a default export that has no other.
-fn is_default(name: &Ident) -> bool
+pub fn is_default(name: &Ident) -> bool
     ensures { result ≡ same_name (ident_name name.now) default_name }
 {
     name.ctxt == SyntaxContext::empty() && name.sym.as_str() == "*default*"
@@ -37,11 +37,10 @@ impl Uses {
         ensures tells { IfOk result (λ u. tables.Tells u (module_tree m.now)) }
         ensures memory { IfErr result (λ e. e ≡ OutOfMemory) }
     {
-        let names = Names::new(alloc, &m.body)?;
-        let mut table = Table::new(alloc, names)?;
-        table.count(Node::Module(m), Place::top());
+        let mut table = Table::new(alloc);
+        table.count(Node::Module(m), Place::top())?;
         let items = Node::Module(m).open().children;
-        table.note_exports(items);
+        table.note_exports(items)?;
         Ok(Uses {
             table,
             exports_default: any_nameless(items),
@@ -53,30 +52,34 @@ impl Uses {
         ensures tells { IfOk result (λ u. tables.Tells u (script_tree s.now)) }
         ensures memory { IfErr result (λ e. e ≡ OutOfMemory) }
     {
-        let names = Names::new(alloc, &s.body)?;
-        let mut table = Table::new(alloc, names)?;
-        table.count(Node::Script(s), Place::top());
+        let mut table = Table::new(alloc);
+        table.count(Node::Script(s), Place::top())?;
         Ok(Uses {
             table,
             exports_default: false,
         })
     }
 
-    /// What was noted of a name, nothing where it has no number.
-    fn tally(&self, name: &Ident) -> Tally
-        ensures { (f : facts.Fact) → tables.holds result f ≡ tables.fact_of self.now.table f (ident_name name.now) }
+    /// How an item of a module's list uses its names, by itself. Refuses where memory is refused.
+    pub fn of_item(alloc: Global, item: Node<'_>) -> Result<Uses, PassError>
+        ensures tells { IfOk result (λ u. tables.Tells u (node trees.Module [] (node_tree item.entry ⊳ ε))) }
+        ensures memory { IfErr result (λ e. e ≡ OutOfMemory) }
     {
-        match self.table.tally(name) {
-            Some(tally) => tally,
-            None => Tally::empty(),
-        }
+        let mut table = Table::new(alloc);
+        table.count(item, Place::top())?;
+        let opened = item.open();
+        table.note_exported(opened.kind, opened.children)?;
+        Ok(Uses {
+            table,
+            exports_default: is_nameless(opened.kind),
+        })
     }
 
     /// Whether a name is neither used nor written: inside the declaration of a function its own name doesn't count.
     pub fn is_free(&self, name: &Ident) -> bool
         ensures { result ≡ tables.is_free self.now (ident_name name.now) }
     {
-        let tally = self.tally(name);
+        let tally = self.table.tally(name);
         let is_hidden = tally.has(Fact::Hidden) || self.exports_default && is_default(name);
         !(tally.has(Fact::Used) || tally.has(Fact::Written) || is_hidden)
     }
@@ -85,7 +88,7 @@ impl Uses {
     pub fn is_unread(&self, name: &Ident) -> bool
         ensures { result ≡ tables.is_unused self.now (ident_name name.now) }
     {
-        let tally = self.tally(name);
+        let tally = self.table.tally(name);
         let is_hidden = tally.has(Fact::Hidden) || self.exports_default && is_default(name);
         tally.has(Fact::Declared) && !(tally.has(Fact::Read) || is_hidden)
     }
@@ -94,13 +97,13 @@ impl Uses {
     pub fn is_held(&self, name: &Ident) -> bool
         ensures { result ≡ tables.is_held self.now (ident_name name.now) }
     {
-        self.tally(name).has(Fact::Held)
+        self.table.tally(name).has(Fact::Held)
     }
 
     /// Whether a name occurs outside the declarations of functions.
     pub fn is_abroad(&self, name: &Ident) -> bool
         ensures { result ≡ tables.is_abroad self.now (ident_name name.now) }
     {
-        self.tally(name).has(Fact::Abroad)
+        self.table.tally(name).has(Fact::Abroad)
     }
 }

@@ -1,5 +1,5 @@
 -- The number of a name is where it stands among names that stand there once each.
-use Rattle.std.proofs.Common.{◌≡◌, ℕ, zero, suc, ◌+◌, false, not, cond, List, [], ◌∷◌, length, slice_get, position, get_or, Option, Some, None, refl, sym, ap, ◌∙◌, arith}
+use Rattle.std.proofs.Common.{◌≡◌, ℕ, zero, suc, ◌+◌, true, false, not, cond, List, [], ◌∷◌, length, slice_get, position, get_or, Option, Some, None, refl, sym, ap, ◌∙◌, arith}
 use Rattle.std.proofs.lemmas.Bool.{lt-ltb}
 use Rattle.std.proofs.lemmas.List.{length-map}
 use Rattle.std.proofs.lemmas.List.Quantifiers.{position-Some}
@@ -48,6 +48,10 @@ pub numbered : (k : Id) (ks : List Id) (n : ℕ) → IsDistinct same_id ks → s
 numbered k ks n h there =
     let len : length (ids ks) ≡ length ks = length-map ks id_name in
     cc (first k ks n h there, len) ∙ ap (λ b. cond b (Some n) None) (lt-ltb n (length ks) (slice_get_within ks n k there))
+
+-- the number of a name that was put in is where it is stored
+pub stored_at : (x : Name) (i k : Id) (ks : List Id) (n : ℕ) → id_name i ≡ x → IsDistinct same_id ks → slice_get ks n ≡ Some k → same_id i k ≡ true → position (same_name x) (ids ks) ≡ Some n
+stored_at x i k ks n is d there same = ap (λ y. position (same_name y) (ids ks)) (sym is ∙ same_name_path (id_name i) (id_name k) same) ∙ numbered k ks n d there
 
 -- the same of answers
 

@@ -17,8 +17,8 @@ use std::collections::BTreeSet;
 use stmt_like::StmtLike;
 use swc_ast::{Id, Ident, PassError, Pat, Stmt};
 
-/// The names that a list binds: those of declarations, parameters, functions, imports and handlers, also inside
-/// functions (ECMA-262, 8.2.1). Refuses where memory is refused.
+/// Returns the names that a list binds: those of declarations, parameters, functions, imports and handlers, also inside
+/// functions (ECMA-262, 8.2.1). Fails if memory runs out.
 pub fn collect_decls<T: StmtLike>(alloc: Global, items: &[T]) -> Result<BTreeSet<Id>, PassError>
     ensures names { IfOk result (λ s. (x : Name) → has_name x (ids_of s.keys) ≡ has_name x (bound (list_trees (λ x. item_tree (T.item x)) items.now))) }
     ensures memory { IfErr result (λ e. e ≡ OutOfMemory) }
@@ -27,8 +27,8 @@ pub fn collect_decls<T: StmtLike>(alloc: Global, items: &[T]) -> Result<BTreeSet
     Ok(set_of(alloc, &names)?)
 }
 
-/// The names that statements declare by `var`, outside functions, in the order of the text (ECMA-262, 8.2.6).
-/// Refuses where memory is refused.
+/// Returns the names that statements declare by `var`, outside functions, in the order of the text (ECMA-262, 8.2.6).
+/// Fails if memory runs out.
 pub fn extract_var_ids(alloc: Global, stmts: &[Stmt]) -> Result<Vec<Id>, PassError>
     ensures names { IfOk result (λ r. ids_of r.items ≡ vars_all (list_trees stmt_tree stmts.now)) }
     ensures memory { IfErr result (λ e. e ≡ OutOfMemory) }
@@ -37,7 +37,7 @@ pub fn extract_var_ids(alloc: Global, stmts: &[Stmt]) -> Result<Vec<Id>, PassErr
     Ok(to_ids(alloc, &names)?)
 }
 
-/// The names of parameters, in their order. Refuses where memory is refused.
+/// Returns the names of parameters, in their order. Fails if memory runs out.
 pub fn find_pat_ids(alloc: Global, params: &[Pat]) -> Result<Vec<Id>, PassError>
     ensures names { IfOk result (λ r. ids_of r.items ≡ param_names (list_trees (param_tree expr_tree) params.now)) }
     ensures memory { IfErr result (λ e. e ≡ OutOfMemory) }

@@ -1,5 +1,5 @@
 //! Names by number.
-ghost use Rattle.std.specs.Prelude.{◌≡◌, IfOk, IfErr, OnOk, IfSome, Some, length, position, slice_get, option_map};
+ghost use Rattle.std.specs.Prelude.{◌≡◌, IfOk, IfErr, OnOk, IfSome, Some, [], length, position, slice_get, option_map};
 ghost use Rattle.swc_ast.specs.Modules.{item_tree};
 ghost use Rattle.swc_ast.specs.Parts.{ident_name, list_trees};
 ghost use Rattle.swc_ast.specs.Tree.{same_name};
@@ -32,7 +32,7 @@ impl Model for Names {
 }
 
 impl Names {
-    /// The names of the items of a module, or of statements. Refuses where memory is refused.
+    /// Returns the names of the items of a module, or of statements. Fails if memory runs out.
     pub fn new<T: StmtLike>(alloc: Global, items: &[T]) -> Result<Names, PassError>
         ensures names { IfOk result (λ n. n ≡ distinct (mentioned (list_trees (λ x. item_tree (T.item x)) items.now))) }
         ensures memory { IfErr result (λ e. e ≡ OutOfMemory) }
@@ -42,7 +42,29 @@ impl Names {
         Ok(Names { set })
     }
 
-    /// The number of a name, if it stands in the tree.
+    /// Returns an empty table, to which `add` adds.
+    pub fn empty(alloc: Global) -> Names
+        ensures { result ≡ [] }
+    {
+        Names {
+            set: IndexSet::new(alloc),
+        }
+    }
+
+    /// The number of an identifier's name. A name that has none gets the next, behind those of the others. Fails where memory is
+    /// refused.
+    pub fn add(&mut self, name: &Ident) -> Result<usize, AllocError>
+        ensures names { OnOk result (self.new ≡ with_name self.old (ident_name name.now)) }
+        ensures number { IfOk result (λ n. position (same_name (ident_name name.now)) self.new ≡ Some n) }
+    {
+        if let Some(number) = self.set.get_index_of(Key::of(name)) {
+            return Ok(number);
+        }
+        let (number, _) = self.set.insert_full(name.to_id()?)?;
+        Ok(number)
+    }
+
+    /// Returns the number of a name, if it is in the tree.
     pub fn number(&self, id: &Id) -> Option<usize>
         ensures number { result ≡ position (same_name (id_name id.now)) self.now }
         ensures named { IfSome result (λ n. slice_get self.now n ≡ Some (id_name id.now)) }
@@ -50,7 +72,7 @@ impl Names {
         self.set.get_index_of(id)
     }
 
-    /// The number of an identifier's name, if it stands in the tree.
+    /// Returns the number of an identifier's name, if it is in the tree.
     pub fn number_of(&self, name: &Ident) -> Option<usize>
         ensures number { result ≡ position (same_name (ident_name name.now)) self.now }
         ensures named { IfSome result (λ n. slice_get self.now n ≡ Some (ident_name name.now)) }
@@ -58,7 +80,7 @@ impl Names {
         self.set.get_index_of(Key::of(name))
     }
 
-    /// The name that has a number, if one has.
+    /// Returns the name of a number, if there is one.
     pub fn id(&self, number: usize) -> Option<&Id>
         ensures name { option_map (λ i. id_name i.now) result ≡ slice_get self.now number }
         ensures numbered { IfSome result (λ i. position (same_name (id_name i.now)) self.now ≡ Some number) }
@@ -66,7 +88,7 @@ impl Names {
         self.set.as_slice().get(number)
     }
 
-    /// How many names there are: their numbers are those below.
+    /// Returns how many names there are. Their numbers are those below.
     pub fn len(&self) -> usize
         ensures { result ≡ length self.now }
     {

@@ -1,11 +1,9 @@
-use Rattle.std.proofs.Common.{◌≡◌, ◌≤◌, ◌+◌, ◌*◌, ◌||◌}
-use Rattle.std.specs.Prelude.{option_map}
-use Rattle.swc_ast.specs.Tree.{Name}
+use Rattle.std.proofs.Common.{◌≤◌, ◌+◌, ◌*◌}
 use Rattle.swc_visit.specs.Nodes.{node_tree, children_forest}
 use Rattle.swc_visit.proofs.Caps.{tree_size, forest_size}
-use Rattle.dce_uses.specs.declared.tally.Fact.{Fact}
 use Rattle.dce_uses.specs.Noted.{noted_among}
-use Rattle.dce_uses.specs.Tables.{fact_at}
+use Rattle.dce_uses.proofs.Adding.{Going}
+use Rattle.dce_uses.proofs.Seeing.{SeenSo}
 use Rattle.dce_uses.proofs.table.Table.+count.Given as goal
 
 abbrev pub decreases-count : goal.decreases-count
@@ -16,7 +14,8 @@ decreases-count_all l = forest_size (children_forest l.children) * 2 + 1
 
 abbrev pub invariant-count_all-loop-child : goal.invariant-count_all-loop-child
 invariant-count_all-loop-child l =
-    ((f : Fact) (x : Name) → option_map (λ b. b || noted_among f x l.place (children_forest l.left)) (fact_at l.self f x) ≡ option_map (λ b. b || noted_among f x l.place (children_forest l.children)) (fact_at l.initial.self f x))
+    Going l.initial.self l.self (λ f x. noted_among f x l.place (children_forest l.children)) (λ f x. noted_among f x l.place (children_forest l.left))
+    × SeenSo l.seen (children_forest l.left) (children_forest l.children)
     × (forest_size (children_forest l.left) ≤ forest_size (children_forest l.children))
 
 abbrev pub decreases-count_all-loop-child : goal.decreases-count_all-loop-child

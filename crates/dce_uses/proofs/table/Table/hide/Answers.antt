@@ -1,4 +1,5 @@
 use Rattle.std.proofs.Common.{[], ◌∷◌, sym, ap}
+use Rattle.std.proofs.lemmas.Result.{on_ok_weaker}
 use Rattle.swc_ast.specs.Parts.{ident_name}
 use Rattle.swc_names.specs.Ids.{optional}
 use Rattle.dce_uses.specs.Noted.{is_hiding}
@@ -7,8 +8,9 @@ use Rattle.dce_uses.proofs.table.Table.hide.Goals as goal
 
 pub returns-in-Some : goal.returns-in-Some
 returns-in-Some c =
-    one_said c.args.self.now c.add_all.new.self c.hidden.result is_hiding (ident_name c.in-Some.name.now ∷ []) (optional c.args.name)
-    c.hidden.ensures (sym (ap optional c.in-Some.is)) c.add_all.ensures
+    on_ok_weaker c.add_all.result
+    (one_said c.args.self.now c.add_all.new.self c.hidden.result is_hiding (ident_name c.in-Some.name.now ∷ []) (optional c.args.name) c.hidden.ensures (sym (ap optional c.in-Some.is)))
+    c.add_all.ensures
 
-pub returns-in_default : goal.returns-in_default
-returns-in_default c = none_said c.args.self.now is_hiding (optional c.args.name) (sym (ap optional c.in_default.is))
+pub returns-in-None : goal.returns-in-None
+returns-in-None c = none_said c.args.self.now is_hiding (optional c.args.name) (sym (ap optional c.in-None.is))

@@ -12,7 +12,7 @@ loop-item-preserved c =
     let l = kind_label c.open-opened.result.kind in let cs = children_forest c.open-opened.result.children in
     more_names c.args.self.now c.loop-item.self c.note_exported.new.self is_hiding (exported_names (children_forest c.args.items)) (exported_names us) (item_names l cs) (exported_names ts)
     (exported_split (node_tree c.in-Some.item) ts us cs l (c.next.ensures ∙ ap next_forest c.in-Some.is) c.open-opened.ensures.0 c.open-opened.ensures.1)
-    c.note_exported.ensures c.loop-item.invariant
+    c.in_ok-note_exported.ensures c.loop-item.invariant
 
 pub returns : goal.returns
 returns c =

@@ -12,7 +12,7 @@ loop-child-preserved c =
     let p = c.args.part in let us = children_forest c.loop-child.left in let ts = children_forest c.in-Some.rest in
     more_names c.args.self.now c.loop-child.self c.hide.new.self is_hiding (listed p (children_forest c.args.children)) (listed p us) (optional c.name_in_list.result) (listed p ts)
     (listed_split p (node_tree c.in-Some.child) ts us (kind_label c.open.result.kind) (optional c.name_in_list.result) (c.next.ensures ∙ ap next_forest c.in-Some.is) c.open.ensures.0 c.name_in_list.ensures)
-    c.hide.ensures c.loop-child.invariant
+    c.in_ok-hide.ensures c.loop-child.invariant
 
 pub returns : goal.returns
 returns c =

@@ -1,4 +1,5 @@
 use Rattle.std.proofs.Common.{[], ◌∷◌, sym, ap, ◌∙◌}
+use Rattle.std.proofs.lemmas.Result.{on_ok_weaker}
 use Rattle.swc_ast.specs.Parts.{ident_name}
 use Rattle.swc_ast.specs.Reach.{named_by}
 use Rattle.swc_visit.specs.Kinds.{kind_label}
@@ -10,10 +11,11 @@ use Rattle.dce_uses.proofs.table.Table.note_named.Goals as goal
 pub returns-in-Some : goal.returns-in-Some
 returns-in-Some c =
     let l = kind_label c.args.kind in
-    one_said c.args.self.now c.add_all.new.self c.naming.result (λ f. naming f c.args.place l) (ident_name c.in-Some.name.now ∷ []) (named_by l)
-    c.naming.ensures (sym (ap optional c.in-Some.is) ∙ c.named.ensures) c.add_all.ensures
+    on_ok_weaker c.add_all.result
+    (one_said c.args.self.now c.add_all.new.self c.naming.result (λ f. naming f c.args.place l) (ident_name c.in-Some.name.now ∷ []) (named_by l) c.naming.ensures (sym (ap optional c.in-Some.is) ∙ c.named.ensures))
+    c.add_all.ensures
 
-pub returns-in_default : goal.returns-in_default
-returns-in_default c =
+pub returns-in-None : goal.returns-in-None
+returns-in-None c =
     let l = kind_label c.args.kind in
-    none_said c.args.self.now (λ f. naming f c.args.place l) (named_by l) (sym (ap optional c.in_default.is) ∙ c.named.ensures)
+    none_said c.args.self.now (λ f. naming f c.args.place l) (named_by l) (sym (ap optional c.in-None.is) ∙ c.named.ensures)

@@ -1,19 +1,21 @@
-use Rattle.std.proofs.Common.{Some, sym, subst, ◌∙◌}
+use Rattle.std.proofs.Common.{sym, ap, subst}
 use Rattle.swc_ast.specs.Parts.{ident_name}
 use Rattle.swc_names.specs.Ids.{optional}
 use Rattle.dce_uses.specs.Tables.{Restores}
-use Rattle.dce_uses.proofs.Numbering.{changes, with_tally, restored_one, restored_unnumbered, past_the_end}
+use Rattle.dce_uses.proofs.Numbering.{changes, with_tally, restored_one, none_restored, never_restored}
 use Rattle.dce_uses.proofs.table.Table.restore.Goals as goal
 
 pub returns-then-number-len : goal.returns-then-number-len
 returns-then-number-len c =
-    let u = c.args.self.now in let y = ident_name c.in-Some.name.now in let n = c.in-Some-number_of.number in let t = c.index.result.now in let w = c.counted_as.result in
-    subst (λ o. Restores u (with_tally u n w) (optional o) c.args.before) (sym c.in-Some.is)
-    (subst (λ b. Restores u (with_tally u n w) (optional (Some c.in-Some.name)) b) (sym c.in-Some-before.is)
-    (restored_one u (with_tally u n w) y n t w c.in-Some-before.before (changes u y n c.len.result t w (sym c.number_of.ensures.number ∙ c.in-Some-number_of.is) c.if-number-len.true c.len.ensures c.index.ensures) c.counted_as.ensures))
+    let u = c.args.self.now in let v = c.number.new.self in let y = ident_name c.in-Some.name.now in let n = c.in_ok-number.number in let t = c.index.result.now in let r = c.counted_as.result in
+    subst (λ xs. Restores u (with_tally v n r) xs c.args.before) (sym (ap optional c.in-Some.is))
+    (restored_one u v (with_tally v n r) y n t r c.args.before c.in_ok-number.ensures
+    (changes v y n c.len.result t r c.in_ok-number.ensures.number c.if-number-len.true c.len.ensures c.index.ensures) c.counted_as.ensures)
 
 pub returns-else-number-len : goal.returns-else-number-len
 returns-else-number-len c =
-    let u = c.args.self.now in let y = ident_name c.in-Some.name.now in
-    subst (λ o. Restores u u (optional o) c.args.before) (sym c.in-Some.is)
-    (restored_unnumbered u y c.args.before (past_the_end u y c.in-Some-number_of.number c.len.result (sym c.number_of.ensures.number ∙ c.in-Some-number_of.is) c.if-number-len.false c.len.ensures))
+    never_restored c.args.self.now c.number.new.self (ident_name c.in-Some.name.now) c.in_ok-number.number c.len.result (optional c.args.name) c.args.before
+    c.in_ok-number.ensures c.if-number-len.false c.len.ensures
+
+pub returns-in_default : goal.returns-in_default
+returns-in_default c = none_restored c.args.self.now (optional c.args.name) c.args.before (sym (ap optional c.in_default.is))
