@@ -24,3 +24,4 @@ pub mod Counted
 pub mod Once
 pub mod Lexical
 pub mod Carried
+pub mod Answered

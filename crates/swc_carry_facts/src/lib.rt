@@ -2,7 +2,7 @@
 //! of a module than that it is a view.
 #![tactic(auto)]
 
-ghost use Rattle.swc_carry_facts.specs.Propagation.{PropagationIsLawful};
+ghost use Rattle.swc_carry_facts.specs.Propagation.{PropagatedIsAnswer, PropagationIsLawful};
 ghost use Rattle.swc_carry_facts.specs.Laws.{LiteralsArePut, ModulesAreWhole, PropagationIsCore, PropagationIsResolved, PropagationIsSame, PropagationIsValid, ScriptsAreWhole, VoidIsPut};
 
 /// The laws of propagation, which its contract states.
@@ -16,4 +16,5 @@ pub fn laws()
     ensures scripts { ScriptsAreWhole }
     ensures literals { LiteralsArePut }
     ensures voids { VoidIsPut }
+    ensures answers { PropagatedIsAnswer }
 {}

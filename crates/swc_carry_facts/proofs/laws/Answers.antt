@@ -1,4 +1,5 @@
 use Rattle.swc_carry_facts.proofs.laws.Goals as goal
+use Rattle.swc_carry_facts.proofs.Answered.{answered}
 use Rattle.swc_carry_facts.proofs.Kept.{propagation_kept}
 use Rattle.swc_carry_facts.proofs.Lawful.{propagation_lawful}
 use Rattle.swc_carry_facts.proofs.Voids.{propagated_voids}
@@ -30,3 +31,6 @@ returns-clause-literals c = λ p mark t w r o x h. propagated_early p t w r o x 
 
 pub returns-clause-voids : goal.returns-clause-voids
 returns-clause-voids c = propagated_voids
+
+pub returns-clause-answers : goal.returns-clause-answers
+returns-clause-answers c = answered

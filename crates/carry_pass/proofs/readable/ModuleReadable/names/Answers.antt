@@ -1,0 +1,5 @@
+use Rattle.swc_carry_facts.proofs.Same.{module_whole}
+use Rattle.carry_pass.proofs.readable.ModuleReadable.names.Goals as goal
+
+pub returns-clause-whole : goal.returns-clause-whole
+returns-clause-whole c = module_whole c.args.self.now

@@ -1,0 +1,10 @@
+mod Undoing
+mod Readying
+mod Fronting
+mod Settling
+mod Stating
+mod Initialising
+mod Declaring
+mod Carrying
+mod Walking
+mod Starting

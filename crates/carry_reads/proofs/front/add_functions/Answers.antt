@@ -1,0 +1,18 @@
+use Rattle.std.proofs.Common.{ap, ◌∙◌}
+use Rattle.swc_names.specs.Ids.{optional}
+use Rattle.swc_visit.specs.Nodes.{node_tree, children_forest, next_forest}
+use Rattle.carry_reads.proofs.Fronting.{item_split, no_items}
+use Rattle.carry_reads.proofs.Readying.{adding_first, adding_next, adding_last, adding_covers}
+use Rattle.carry_reads.proofs.front.add_functions.Goals as goal
+
+pub loop-child-init : goal.loop-child-init
+loop-child-init c = adding_first _ _ _
+
+pub loop-child-preserved : goal.loop-child-preserved
+loop-child-preserved c = adding_next (item_split (optional c.item_function.result) (node_tree c.in-Some.child) (children_forest c.in-Some.rest) (children_forest c.loop-child.left) (c.next.ensures ∙ ap next_forest c.in-Some.is) c.item_function.ensures) c.loop-child.invariant c.in_ok-add_optional.ensures
+
+pub add_optional-requires : goal.add_optional-requires
+add_optional-requires c = adding_covers c.requires c.loop-child.invariant
+
+pub returns : goal.returns
+returns c = adding_last (no_items (children_forest c.loop-child.left) (c.next.ensures ∙ ap next_forest c.in_default.is)) c.loop-child.invariant

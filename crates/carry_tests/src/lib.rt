@@ -1,0 +1,7 @@
+//! Tests of the passes that propagate.
+#![tactic(auto)]
+
+#[cfg(test)]
+mod rows;
+#[cfg(test)]
+mod trees;
