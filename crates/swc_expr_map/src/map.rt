@@ -38,7 +38,7 @@ impl Model for GlobalExprMap {
 }
 
 impl GlobalExprMap {
-    /// A map without keys.
+    /// Returns a map without keys.
     pub fn new(alloc: Global) -> GlobalExprMap
         ensures { result ≡ [] }
     {
@@ -47,7 +47,7 @@ impl GlobalExprMap {
         }
     }
 
-    /// Puts a value at a key, in place of the one that is there. Refuses where memory is refused, and then changes nothing.
+    /// Inserts a value at a key, in place of the one that is there. Fails if memory runs out, and then changes nothing.
     pub fn insert(&mut self, key: Expr, value: Expr) -> Result<(), PassError>
         ensures get { OnOk result ((t : Tree) → found t self.new ≡ (if same_key t (expr_tree key) then Some (expr_tree value) else found t self.old)) }
         ensures count { OnOk result (length self.new ≡ (if is_some (found (expr_tree key) self.old) then length self.old else length self.old + 1)) }
@@ -63,7 +63,7 @@ impl GlobalExprMap {
         }
     }
 
-    /// The value at a key, if one is there.
+    /// Returns the value at a key, if there is one.
     pub fn get(&self, key: &Expr) -> Option<&Expr>
         ensures { option_map (λ e. expr_tree e.now) result ≡ found (expr_tree key.now) self.now }
     {
@@ -73,29 +73,29 @@ impl GlobalExprMap {
         }
     }
 
-    /// How many keys there are: their numbers are those below.
+    /// Returns how many keys there are. Their numbers are those below.
     pub fn len(&self) -> usize
         ensures { result ≡ length self.now }
     {
         self.entries.len()
     }
 
-    /// The number of a key, if it is there.
+    /// Returns the number of a key, if the map has it.
     pub fn number(&self, key: &Expr) -> Option<usize>
         ensures { result ≡ number_of (expr_tree key.now) self.now }
     {
         self.search(key).ok()
     }
 
-    /// The value at the key of a number, if one has it.
+    /// Returns the value at the key of a number, if there is such a key.
     pub fn value(&self, number: usize) -> Option<&Expr>
         ensures { option_map (λ e. expr_tree e.now) result ≡ value_at self.now number }
     {
         Some(&self.entries.get(number)?.value)
     }
 
-    /// The text of the name that the key of a number begins with. None where the key is no chain of members from a name on,
-    /// and where no key has the number.
+    /// Returns the text of the name that the key of a number begins with: `None` where the key is no chain of members from a name
+    /// on, and where no key has the number.
     pub fn name(&self, number: usize) -> Option<&str>
         ensures { option_map (λ s. s.now) result ≡ name_at self.now number }
     {

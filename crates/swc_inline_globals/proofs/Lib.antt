@@ -9,3 +9,4 @@ mod Founds
 mod Expressions
 mod Answered
 mod Passing
+mod Nested

@@ -2,3 +2,4 @@ pub mod Slots
 pub mod Answers
 pub mod Walking
 pub mod Made
+pub mod Nesting

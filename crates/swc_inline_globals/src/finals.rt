@@ -16,16 +16,20 @@ use swc_put::{Spot, put_expr};
 #[derive(Drop)]
 pub(crate) struct Frame {
     number: usize,
-    value: Expr,
+    pub(crate) value: Expr,
     /// What is met in it.
-    needs: Vec<usize>,
+    pub(crate) needs: Vec<usize>,
     /// How many of those are done.
     next: usize,
 }
 
 impl Frame {
     /// A copy of the value of a number, with what is met in it. Fails where memory is refused.
-    fn new(alloc: Global, lookup: &Lookup<'_>, number: usize) -> Result<Frame, AllocError>
+    pub(crate) fn new(
+        alloc: Global,
+        lookup: &Lookup<'_>,
+        number: usize,
+    ) -> Result<Frame, AllocError>
         requires { number < length (answers_of lookup.now.settings).values }
         ensures { IfOk result (λ r. IsFresh (answers_of lookup.now.settings) number r) }
     {

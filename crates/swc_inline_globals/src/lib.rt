@@ -3,7 +3,9 @@
 
 mod finals;
 mod gather;
+mod levels;
 mod pass;
 mod put;
 
+pub use levels::Nesting;
 pub use pass::{InlineGlobals, inline_globals, inline_globals2};

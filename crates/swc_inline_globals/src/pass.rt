@@ -4,11 +4,14 @@ ghost use Rattle.swc_ast.specs.Modules.{module_tree, script_tree};
 ghost use Rattle.swc_pass.specs.Pass.{TellsChange};
 ghost use Rattle.swc_put.specs.Walks.{Makes};
 ghost use Rattle.swc_put.specs.declared.rules.Spot.TheVariants.{Here};
+ghost use Rattle.given_globals.specs.Globals.{answers_of};
 ghost use Rattle.swc_inline_globals.specs.Answers.{Inlined, Refused};
+ghost use Rattle.swc_inline_globals.specs.Nesting.{TellsOfTree};
 ghost use Rattle.swc_inline_globals.specs.Made.{IsWhole, IsMade, WalkGives};
 
 use crate::finals::finals;
 use crate::gather::Gathering;
+use crate::levels::{Nesting, count_levels};
 use crate::put::Putting;
 use given_globals::{Lookup, Settings};
 use std::alloc::{AllocError, Global};
@@ -38,16 +41,16 @@ impl Walked for Script {
     }
 }
 
-/// A pass that puts given expressions in the places of names, of chains of members and of members of `process.env`, where no
-/// scope binds the name that they begin with.
+/// A pass that replaces names, chains of members and members of `process.env` by given expressions, where no scope binds the
+/// name that they begin with.
 #[derive(Drop)]
 pub struct InlineGlobals<'a> {
     settings: Settings<'a>,
     changed: bool,
 }
 
-/// The pass that puts `globals` in the places of names, `envs` in those of members of `process.env`, and the texts of `typeofs`
-/// in those of `typeof` in front of a name.
+/// Returns the pass that replaces names by the values of `globals`, members of `process.env` by those of `envs`, and `typeof` of a
+/// name by the text of `typeofs`.
 pub fn inline_globals<'a>(
     envs: &'a BTreeMap<String, Expr>,
     globals: &'a BTreeMap<String, Expr>,
@@ -119,6 +122,22 @@ impl<'a> InlineGlobals<'a> {
         }
     }
 
+    /// Returns how many levels of expressions and statements there are once what is given is put, if they are at most `most`:
+    /// those of the module, those of a value that is met there, those of one that is met in that, and so on, with a level for
+    /// the brackets round each value. The module stays as it is. Fails if memory runs out.
+    pub fn count_levels(
+        &self,
+        alloc: Global,
+        module: &mut Module,
+        most: u32,
+    ) -> Result<Nesting, AllocError>
+        ensures same { OnOk result (module_tree «module».new ≡ module_tree «module».old) }
+        ensures nesting { IfOk result (TellsOfTree (answers_of self.now.settings) (module_tree «module».old) most) }
+    {
+        let lookup = Lookup::new(alloc, self.settings)?;
+        count_levels(alloc, &lookup, module, most)
+    }
+
     /// What the walks make of a copy. None: it is equal to the input up to spans.
     fn answer<W: Walked>(&mut self, alloc: Global, input: &W) -> Result<Option<W>, PassError>
         ensures settings { self.new.settings ≡ self.old.settings }
@@ -137,8 +156,8 @@ impl<'a> InlineGlobals<'a> {
         Ok(Some(copy))
     }
 
-    /// What the pass makes of a module that it takes: the module itself where it changes nothing but spans. It refuses where a
-    /// value is met in its own code or memory runs out; the pass may run again then.
+    /// Runs the pass over a module and returns the result: the module itself where the pass changes nothing but spans. Fails if a
+    /// value occurs in itself or memory runs out; the pass can run again after that.
     pub fn fold_module(&mut self, alloc: Global, module: Module) -> Result<Module, PassError>
         ensures settings { self.new.settings ≡ self.old.settings }
         ensures answer { IfOk result (λ r. Inlined self.old.settings (module_tree «module») (module_tree r)) }
@@ -152,8 +171,8 @@ impl<'a> InlineGlobals<'a> {
         }
     }
 
-    /// What the pass makes of a script that it takes: the script itself where it changes nothing but spans. It refuses where a
-    /// value is met in its own code or memory runs out; the pass may run again then.
+    /// Runs the pass over a script and returns the result: the script itself where the pass changes nothing but spans. Fails if a
+    /// value occurs in itself or memory runs out; the pass can run again after that.
     pub fn fold_script(&mut self, alloc: Global, script: Script) -> Result<Script, PassError>
         ensures settings { self.new.settings ≡ self.old.settings }
         ensures answer { IfOk result (λ r. Inlined self.old.settings (script_tree script) (script_tree r)) }
@@ -167,8 +186,8 @@ impl<'a> InlineGlobals<'a> {
         }
     }
 
-    /// What the pass makes of a copy of a module. It refuses where a value is met in its own code or memory runs out; the pass
-    /// may run again then.
+    /// Runs the pass over a copy of a module and returns the result. Fails if a value occurs in itself or memory runs out; the pass
+    /// can run again after that.
     pub fn run(&mut self, alloc: Global, module: &Module) -> Result<Module, PassError>
         ensures settings { self.new.settings ≡ self.old.settings }
         ensures answer { IfOk result (λ r. Inlined self.old.settings (module_tree «module».now) (module_tree r)) }
@@ -182,8 +201,8 @@ impl<'a> InlineGlobals<'a> {
         }
     }
 
-    /// What the pass makes of a copy of a script. It refuses where a value is met in its own code or memory runs out; the pass
-    /// may run again then.
+    /// Runs the pass over a copy of a script and returns the result. Fails if a value occurs in itself or memory runs out; the pass
+    /// can run again after that.
     pub fn run_script(&mut self, alloc: Global, script: &Script) -> Result<Script, PassError>
         ensures settings { self.new.settings ≡ self.old.settings }
         ensures answer { IfOk result (λ r. Inlined self.old.settings (script_tree script.now) (script_tree r)) }
