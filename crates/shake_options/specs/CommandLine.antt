@@ -1,5 +1,5 @@
 -- What a command line asks for.
-use Rattle.std.specs.Prelude.{ℕ, ◌^◌, Bool, true, false, ◌&&◌, ◌||◌, List, [], ◌∷◌, Option, None, Some, codes, nat_lt, if◌then◌else◌}
+use Rattle.std.specs.Prelude.{ℕ, ◌^◌, Bool, true, false, ◌&&◌, ◌||◌, List, [], ◌∷◌, ◌++◌, Option, None, Some, codes, nat_lt, if◌then◌else◌}
 use Rattle.std.specs.Char.{is_ascii_digit}
 use Rattle.std.specs.List.{list_all}
 use Rattle.std.specs.Str.{bytes_eq}
@@ -7,7 +7,8 @@ use Rattle.std.specs.Option.{option_and_then, option_map}
 use Rattle.std.specs.Str.Parse.{digits_value}
 use Rattle.shake_options.specs.declared.options.Options.{Options}
 use Rattle.shake_options.specs.declared.options.PassName.{PassName}
-use Rattle.shake_options.specs.declared.options.PassName.TheVariants.{Expr, Branch, Dce, Simplify, Json}
+use Rattle.shake_options.specs.declared.options.PassName.TheVariants.{Expr, Branch, Dce, Simplify, Const, Inline, Json}
+use Rattle.shake_options.specs.Flags.{FlagText, flag_of}
 
 -- the number that decimal digits alone write, where a usize holds it
 abbrev pub count_in : List ℕ → Option ℕ
@@ -21,6 +22,8 @@ pass_named word =
     else if bytes_eq word (codes "branch") then Some Branch
     else if bytes_eq word (codes "dce") then Some Dce
     else if bytes_eq word (codes "simplify") then Some Simplify
+    else if bytes_eq word (codes "const") then Some Const
+    else if bytes_eq word (codes "inline") then Some Inline
     else if bytes_eq word (codes "json") then Some Json
     else None
 
@@ -28,9 +31,13 @@ pass_named word =
 abbrev pub defaults : PassName → Options
 defaults p = record { pass = p; top_level = true; preserve_imports_with_side_effects = true; max_rounds = 18446744073709551615; min_cost = 1024 }
 
+-- an option that gives something
+abbrev pub gives : List ℕ → Bool
+gives word = bytes_eq word (codes "--define") || bytes_eq word (codes "--env") || bytes_eq word (codes "--typeof") || bytes_eq word (codes "--const")
+
 -- an option with an operand in the next word
 abbrev pub takes_operand : List ℕ → Bool
-takes_operand word = bytes_eq word (codes "--retain") || bytes_eq word (codes "--rounds") || bytes_eq word (codes "--min-cost")
+takes_operand word = bytes_eq word (codes "--retain") || bytes_eq word (codes "--rounds") || bytes_eq word (codes "--min-cost") || gives word
 
 -- the options, changed by one that stands alone
 abbrev pub switched : List ℕ → Options → Option Options
@@ -45,7 +52,7 @@ valued word operand o =
     if bytes_eq word (codes "--retain") then Some o
     else if bytes_eq word (codes "--rounds") then option_map (λ n. record o { max_rounds = n }) (count_in operand)
     else if bytes_eq word (codes "--min-cost") then option_map (λ n. record o { min_cost = n }) (count_in operand)
-    else None
+    else option_map (λ _. o) (flag_of word operand)
 
 -- the options, changed by these words from the first to the last
 abbrev pub changed_by : List (List ℕ) → Options → Option Options
@@ -73,3 +80,20 @@ retained_among (word ∷ next ∷ words) =
 abbrev pub retained_in : List (List ℕ) → List (List ℕ)
 retained_in [] = []
 retained_in (name ∷ words) = retained_among words
+
+abbrev pub if_any : Option FlagText → List FlagText
+if_any None = []
+if_any (Some f) = f ∷ []
+
+-- what is given among these words, in order; an operand is no option itself
+abbrev pub flags_among : List (List ℕ) → List FlagText
+flags_among [] = []
+flags_among (word ∷ []) = []
+flags_among (word ∷ next ∷ words) =
+    if takes_operand word then if_any (flag_of word next) ++ flags_among words
+    else flags_among (next ∷ words)
+
+-- what a command line gives
+abbrev pub flags_in : List (List ℕ) → List FlagText
+flags_in [] = []
+flags_in (name ∷ words) = flags_among words

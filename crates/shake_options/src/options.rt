@@ -4,6 +4,7 @@ ghost use Rattle.std.specs.List.{list_all};
 ghost use Rattle.std.specs.Char.{is_ascii_digit};
 ghost use Rattle.shake_options.specs.CommandLine.{count_in, pass_named, defaults, takes_operand, switched, valued, command_line, retained_in};
 
+use crate::flags::Flag;
 use std::alloc::{AllocError, Global};
 
 /// The passes that can be named.
@@ -13,6 +14,8 @@ pub enum PassName {
     Branch,
     Dce,
     Simplify,
+    Const,
+    Inline,
     Json,
 }
 
@@ -26,6 +29,8 @@ impl PassName {
             "branch" => Some(PassName::Branch),
             "dce" => Some(PassName::Dce),
             "simplify" => Some(PassName::Simplify),
+            "const" => Some(PassName::Const),
+            "inline" => Some(PassName::Inline),
             "json" => Some(PassName::Json),
             _ => None,
         }
@@ -48,7 +53,7 @@ pub struct Options {
 
 impl Options {
     /// The options of the words behind the program's name: a pass, and then options, of which the last of a kind
-    /// counts. None where a word isn't understood or an operand is missing.
+    /// counts. None where a word isn't understood, an operand is missing, or one that gives something has no key.
     pub fn parse(args: &[String]) -> Option<Options>
         ensures { result ≡ command_line (map string_bytes args.now) }
     {
@@ -107,7 +112,7 @@ impl Options {
                 min_cost: count(operand)?,
                 ..self
             }),
-            _ => None,
+            _ => Flag::of(word, operand).map(|_| self),
         }
     }
 }
@@ -133,10 +138,14 @@ pub fn retained(alloc: Global, args: &[String]) -> Result<Vec<String>, AllocErro
     Ok(texts)
 }
 
-fn takes_operand(word: &str) -> bool
+/// Whether the next word belongs to an option.
+pub(crate) fn takes_operand(word: &str) -> bool
     ensures { result ≡ takes_operand word.now }
 {
-    matches!(word, "--retain" | "--rounds" | "--min-cost")
+    matches!(
+        word,
+        "--retain" | "--rounds" | "--min-cost" | "--define" | "--env" | "--typeof" | "--const"
+    )
 }
 
 /// The number that decimal digits alone write; none for another text, and past the greatest usize.

@@ -1,20 +1,27 @@
 -- A pass that tells what the options say is the pass that they name.
-use Rattle.std.proofs.Common.{ℕ, ◌≡◌, refl, sym, ap, subst, ◌∙◌, List, map, string_bytes, IfOk, Result}
+use Rattle.std.proofs.Common.{ℕ, ◌≡◌, Bool, true, refl, sym, ap, subst, ◌∙◌, List, map, string_bytes, IfOk, Result}
 use Rattle.std.proofs.lemmas.Result.{IfOk-weaker}
+use Rattle.swc_ast.specs.Core.{IsCore}
 use Rattle.swc_ast.specs.Resolved.{IsResolved}
+use Rattle.swc_ast.specs.Run.{Same}
 use Rattle.swc_ast.specs.Tree.{Text, Tree}
+use Rattle.swc_ast.specs.Valid.{valid}
 use Rattle.swc_ast.specs.declared.names.Mark.{Mark}
-use Rattle.swc_pass.specs.Pass.{PassSpec}
+use Rattle.swc_pass.specs.Pass.{PassSpec, Keeps}
+use Rattle.swc_carry.specs.Carry.{Pass as Carried, constants, inlines}
+use Rattle.swc_carry_facts.specs.Propagation.{propagation_spec}
 use Rattle.swc_expr.specs.Simplified.{simplify_spec}
 use Rattle.swc_branch.specs.Removed.{remove_spec}
 use Rattle.swc_dce.specs.Configured.{told}
 use Rattle.swc_dce.specs.Shaken.{Told, shake_spec}
 use Rattle.swc_dce.specs.declared.config.Config.{Config}
 use Rattle.swc_json_parse.specs.Answers.{Parsed}
+use Rattle.swc_pass.specs.Repeat.{Rounded}
+use Rattle.swc_optimization.specs.Simplifier.{round_spec, rounds_spec}
 use Rattle.shake_run.specs.Passes.{told_by, json_spec, pass_of, pass_by}
 use Rattle.shake_options.specs.declared.options.Options.{Options}
 use Rattle.shake_options.specs.declared.options.PassName.{PassName}
-use Rattle.shake_options.specs.declared.options.PassName.TheVariants.{Expr, Branch, Dce, Json}
+use Rattle.shake_options.specs.declared.options.PassName.TheVariants.{Expr, Branch, Dce, Simplify, Const, Inline, Json}
 
 module _ (mark : Mark) (o : Options) (retained : List Text) where
   by_name : {n : PassName} → o.pass ≡ n → pass_of n (told_by mark o retained) o.max_rounds o.min_cost ≡ pass_by mark o retained
@@ -29,6 +36,15 @@ module _ (mark : Mark) (o : Options) (retained : List Text) where
   pub is_dce : {s : Told} → o.pass ≡ Dce → s ≡ told_by mark o retained → shake_spec s ≡ pass_by mark o retained
   is_dce is e = ap shake_spec e ∙ by_name is
 
+  pub is_simplify : {s : Told} {most : ℕ} → o.pass ≡ Simplify → s ≡ told_by mark o retained → most ≡ o.max_rounds → rounds_spec s most ≡ pass_by mark o retained
+  is_simplify {s} {most} is e f = ap (λ x. rounds_spec x most) e ∙ (ap (rounds_spec (told_by mark o retained)) f ∙ by_name is)
+
+  pub is_const : o.pass ≡ Const → propagation_spec constants ≡ pass_by mark o retained
+  is_const is = by_name is
+
+  pub is_inline : o.pass ≡ Inline → propagation_spec inlines ≡ pass_by mark o retained
+  is_inline is = by_name is
+
   pub is_json : {least : ℕ} → o.pass ≡ Json → least ≡ o.min_cost → json_spec least ≡ pass_by mark o retained
   is_json is e = ap json_spec e ∙ by_name is
 
@@ -40,6 +56,24 @@ module _ (mark : Mark) (o : Options) (retained : List Text) where
 pub answers_as : {A E : Type 0} (f : A → Tree) (r : Result A E) (t : Tree) {p q : PassSpec} → p ≡ q → IfOk r (λ x. p.answers t (f x)) → IfOk r (λ x. q.answers t (f x))
 answers_as f r t is a = subst (λ q. IfOk r (λ x. q.answers t (f x))) is a
 
+-- rounds are an answer of the simplifier, however many they are and whether or not the last one changed nothing
+pub rounds_answer : {A E : Type 0} (f : A → Tree) (r : Result A E) (t : Tree) (s : Told) (most n : ℕ) (reached : Bool) → IfOk r (λ x. Rounded (round_spec s) most t n reached (f x)) → IfOk r (λ x. (rounds_spec s most).answers t (f x))
+rounds_answer f r t s most n reached a = IfOk-weaker r _ _ (λ x k. (n, reached, k)) a
+
 -- what literals are replaced in stays resolved
 pub stays_resolved : {A E : Type 0} (f : A → Tree) (r : Result A E) (least n : ℕ) (t : Tree) → IfOk r (λ x. Parsed least t (f x)) → IfOk r (λ x. IsResolved n t → IsResolved n (f x))
 stays_resolved f r least n t a = IfOk-weaker r _ _ (λ x k. k.resolved n) a
+
+-- what a pass that propagates answers keeps, whatever the mark: it does the same, and stays resolved, valid and in the core
+
+pub propagates_same : {A E : Type 0} (f : A → Tree) (r : Result A E) (p : Carried) {q : PassSpec} (D : Type 0) (n : ℕ) (t : Tree) → propagation_spec p ≡ q → IfOk r (λ x. Keeps (propagation_spec p) t (f x)) → IfOk r (λ x. D → IsResolved n t → IsCore t → Same n q.loads t (f x))
+propagates_same f r p D n t is a = subst (λ q. IfOk r (λ x. D → IsResolved n t → IsCore t → Same n q.loads t (f x))) is (IfOk-weaker r _ _ (λ x k d i c. k.same n tt i c) a)
+
+pub propagates_resolved : {A E : Type 0} (f : A → Tree) (r : Result A E) (p : Carried) (n : ℕ) (t : Tree) → IfOk r (λ x. Keeps (propagation_spec p) t (f x)) → IfOk r (λ x. IsResolved n t → IsResolved n (f x))
+propagates_resolved f r p n t a = IfOk-weaker r _ _ (λ x k i. k.resolved n tt i) a
+
+pub propagates_valid : {A E : Type 0} (f : A → Tree) (r : Result A E) (p : Carried) (n : ℕ) (t : Tree) → IfOk r (λ x. Keeps (propagation_spec p) t (f x)) → IfOk r (λ x. IsResolved n t → valid t ≡ true → valid (f x) ≡ true)
+propagates_valid f r p n t a = IfOk-weaker r _ _ (λ x k i v. k.valid n tt i v) a
+
+pub propagates_core : {A E : Type 0} (f : A → Tree) (r : Result A E) (p : Carried) (n : ℕ) (t : Tree) → IfOk r (λ x. Keeps (propagation_spec p) t (f x)) → IfOk r (λ x. IsResolved n t → IsCore t → IsCore (f x))
+propagates_core f r p n t a = IfOk-weaker r _ _ (λ x k i c. k.core n tt i c) a

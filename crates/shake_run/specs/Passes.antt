@@ -3,6 +3,8 @@ use Rattle.std.specs.Prelude.{ℕ, true, false, List, None}
 use Rattle.swc_ast.specs.Tree.{Text}
 use Rattle.swc_ast.specs.declared.names.Mark.{Mark}
 use Rattle.swc_pass.specs.Pass.{PassSpec}
+use Rattle.swc_carry.specs.Carry.{constants, inlines}
+use Rattle.swc_carry_facts.specs.Propagation.{propagation_spec}
 use Rattle.swc_expr.specs.Simplified.{simplify_spec}
 use Rattle.swc_branch.specs.Removed.{remove_spec}
 use Rattle.swc_dce.specs.Shaken.{Told, shake_spec}
@@ -10,7 +12,7 @@ use Rattle.swc_json_parse.specs.Answers.{Parsed}
 use Rattle.swc_optimization.specs.Simplifier.{rounds_spec}
 use Rattle.shake_options.specs.declared.options.Options.{Options}
 use Rattle.shake_options.specs.declared.options.PassName.{PassName}
-use Rattle.shake_options.specs.declared.options.PassName.TheVariants.{Expr, Branch, Dce, Simplify, Json}
+use Rattle.shake_options.specs.declared.options.PassName.TheVariants.{Expr, Branch, Dce, Simplify, Const, Inline, Json}
 
 -- what the options tell the tree shaker of modules whose unresolved names bear this mark; names of these texts stay
 abbrev pub told_by : Mark → Options → List Text → Told
@@ -26,6 +28,8 @@ pass_of Expr told most least = simplify_spec told.mark
 pass_of Branch told most least = remove_spec told.mark
 pass_of Dce told most least = shake_spec told
 pass_of Simplify told most least = rounds_spec told most
+pass_of Const told most least = propagation_spec constants
+pass_of Inline told most least = propagation_spec inlines
 pass_of Json told most least = json_spec least
 
 -- the pass that these options name

@@ -2,6 +2,7 @@
 ghost use Rattle.std.specs.Prelude.{◌≡◌};
 ghost use Rattle.shake_run.specs.Status.{status_of};
 
+use shake_given::GivenError;
 use swc_ast::PassError;
 use swc_text::{PrintError, ReadError};
 use thiserror::Error;
@@ -18,6 +19,9 @@ pub enum Fault {
     /// The text isn't read as a module.
     #[error("{0}")]
     Read(ReadError),
+    /// A flag isn't read, or what it gives isn't put.
+    #[error("{0}")]
+    Given(GivenError),
     /// The pass refused.
     #[error("{0}")]
     Pass(PassError),

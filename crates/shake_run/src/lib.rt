@@ -2,10 +2,11 @@
 #![tactic(auto)]
 
 mod fault;
+mod flagged;
 mod input;
 mod passes;
 mod work;
 
 pub use fault::Fault;
-pub use passes::run_pass;
+pub use flagged::run_pass;
 pub use work::{run, tell};

@@ -14,8 +14,10 @@ use shake_options::{Options, PassName};
 use std::alloc::Global;
 use swc_ast::{Mark, Module, PassError};
 use swc_branch::dead_branch_remover;
+use swc_const_propagation::constant_propagation;
 use swc_dce::dce;
 use swc_expr::expr_simplifier;
+use swc_inlining::inlining;
 use swc_json_parse::json_parse;
 use swc_optimization::simplifier;
 use swc_pass::Pass;
@@ -37,7 +39,7 @@ fn shaking(options: Options, top_retain: Vec<String>) -> swc_dce::Config
 
 /// What the pass that is named makes of a module whose unresolved names bear the mark. Names with the texts given are retained.
 /// Refuses where memory is refused.
-pub fn run_pass(
+pub(crate) fn named_pass(
     alloc: Global,
     options: Options,
     retained: Vec<String>,
@@ -68,10 +70,19 @@ pub fn run_pass(
         PassName::Simplify => {
             let config = swc_optimization::Config {
                 dce: shaking(options, retained),
+                inlining: swc_inlining::Config {},
                 expr: swc_expr::Config {},
                 max_rounds: options.max_rounds,
             };
             let mut pass = simplifier(mark, config);
+            pass.fold_module(alloc, module)
+        }
+        PassName::Const => {
+            let mut pass = constant_propagation();
+            pass.fold_module(alloc, module)
+        }
+        PassName::Inline => {
+            let mut pass = inlining(swc_inlining::Config {});
             pass.fold_module(alloc, module)
         }
         PassName::Json => {

@@ -6,19 +6,20 @@ ghost use Rattle.shake_run.specs.declared.fault.Fault.TheVariants.{Arguments, Pr
 ghost use Rattle.swc_text.specs.declared.error.PrintError.TheVariants.{Invalid};
 
 use crate::fault::Fault;
+use crate::flagged::run_pass;
 use crate::input::read_text;
-use crate::passes::run_pass;
-use shake_options::{Options, retained};
+use shake_options::{Options, flags_of, retained};
 use std::alloc::Global;
 use std::io::{Read, Write};
+use std::mem::ManuallyDrop;
 use swc_ast::Mark;
 use swc_text::{print, read_module};
 
 /// The program's work: `args` are the words behind its name. Reads a module from `reader`, with the unresolved mark 1,
 /// runs the pass that the first word names and writes the answer. Gives the exit status: 0; 1 on a failure, with one
 /// line on `errors` and nothing written unless a write itself failed; 2 with the line `shake: arguments` where the
-/// words aren't understood, and then nothing is read. Faults are found in the order arguments, input, reader, pass,
-/// printer, output. A failed write to `errors` changes no status.
+/// words aren't understood, and then nothing is read. Faults are found in the order arguments, input, reader, flags, pass,
+/// printer, output. A failed write to `errors` changes no status. The memory of the answer's tree is left to the end of the process.
 pub fn run<R: Read, W: Write, E: Write>(
     alloc: Global,
     args: &[String],
@@ -46,6 +47,7 @@ pub fn tell<E: Write>(fault: Fault, errors: &mut E) -> u8
     fault.status()
 }
 
+#[tactic(auto, using(crate::proofs::Refusals::no_arguments, crate::proofs::Refusals::no_output, crate::proofs::Refusals::no_print))]
 fn work<R: Read, W: Write>(
     alloc: Global,
     args: &[String],
@@ -60,10 +62,13 @@ fn work<R: Read, W: Write>(
 {
     let options = Options::parse(args).ok_or(Fault::Arguments)?;
     let retained = retained(alloc, args).map_err(|_| Fault::OutOfMemory)?;
+    let flags = flags_of(alloc, args).map_err(|_| Fault::OutOfMemory)?;
     let text = read_text(alloc, reader)?;
     let mark = Mark::new(1).unwrap();
     let module = read_module(alloc, text.as_str(), mark).map_err(Fault::Read)?;
-    let simpler = run_pass(alloc, options, retained, mark, module).map_err(Fault::Pass)?;
+    let simpler = run_pass(alloc, options, retained, flags.as_slice(), mark, module)?;
+    // The process ends behind this, so nothing is won by dropping the tree.
+    let simpler = ManuallyDrop::new(simpler);
     // The text is whole before the first write.
     let answer = print(alloc, &simpler).map_err(Fault::Print)?;
     writer

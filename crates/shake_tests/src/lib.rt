@@ -2,4 +2,6 @@
 #![tactic(auto)]
 
 #[cfg(test)]
+mod flags;
+#[cfg(test)]
 mod runs;

@@ -72,11 +72,11 @@ const AMPLE: usize = 1000;
 
 // What a run answers: its status, what it wrote, what it said, and how often it read.
 #[derive(Drop)]
-struct Outcome {
-    status: u8,
-    output: Vec<u8>,
-    said: Vec<u8>,
-    reads: usize,
+pub(crate) struct Outcome {
+    pub(crate) status: u8,
+    pub(crate) output: Vec<u8>,
+    pub(crate) said: Vec<u8>,
+    pub(crate) reads: usize,
 }
 
 fn ran(
@@ -110,7 +110,7 @@ fn bytes(text: &[u8]) -> Source<'_> {
 }
 
 // A run over a text, whose streams don't fail.
-fn ran_on(alloc: Global, args: &[&str], text: &[u8]) -> Result<Outcome, Fail> {
+pub(crate) fn ran_on(alloc: Global, args: &[&str], text: &[u8]) -> Result<Outcome, Fail> {
     ran(alloc, args, bytes(text), Sink::new(alloc, AMPLE), AMPLE)
 }
 

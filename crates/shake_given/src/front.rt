@@ -1,0 +1,111 @@
+//! What is given, put into a module.
+ghost use Rattle.std.specs.Prelude.{◌≡◌, ◌≢◌, ◌≤◌, [], IfOk, IfErr, map};
+ghost use Rattle.swc_ast.specs.Modules.{module_tree};
+ghost use Rattle.swc_levels.specs.Levels.{levels};
+ghost use Rattle.shake_options.specs.Flags.{flag_texts};
+ghost use Rattle.shake_given.specs.Prepared.{Replaces, Puts, Prepared, Stays, most_levels};
+
+use crate::error::GivenError;
+use crate::given::{Given, GivenNames};
+use const_pass::ConstModules;
+use const_rules::GivenModules;
+use shake_options::Flag;
+use std::alloc::Global;
+use std::collections::BTreeMap;
+use swc_ast::{Expr, Mark, Module};
+use swc_inline_globals::{Nesting, inline_globals2};
+use swc_levels::levels_of_module;
+
+/// How many levels of expressions and statements a module may have by what is given: as many as a text may have.
+const MOST_LEVELS: u32 = 1000;
+
+/// Puts what flags give into a module whose unresolved names bear the mark: first the values of imports, and then those of
+/// names, of members and of `typeof`, in these values too. Without flags the module is given back as it is. Refuses the first
+/// flag that can't be read, and then what the passes refuse: an import of what a given module hasn't, a namespace that is used
+/// otherwise than to name an export, an import that is exported again, and a value that leads back to itself. Refuses too where
+/// the levels of the module and of values that stand in one another are more than 1,000, or more than the module has if it has
+/// so many, and where memory is refused.
+pub fn prepare(
+    alloc: Global,
+    flags: &[Flag<'_>],
+    mark: Mark,
+    module: Module,
+) -> Result<Module, GivenError>
+    ensures prepared { IfOk result (λ r. Prepared (map flag_texts flags.now) mark (module_tree «module») (module_tree r)) }
+    ensures stays { IfOk result (λ r. Stays (module_tree «module») (module_tree r)) }
+    ensures unflagged { IfOk result (λ r. flags.now ≡ [] → module_tree r ≡ module_tree «module») }
+    ensures levels { IfOk result (λ r. levels (module_tree r) ≤ most_levels (module_tree «module»)) }
+    ensures refused { IfErr result (λ _. flags.now ≢ []) }
+{
+    if flags.is_empty() {
+        return Ok(module);
+    }
+    let most = most_levels(&module);
+    let prepared = put_all(alloc, flags, mark, module, most)?;
+    if levels_of_module(&prepared, most).is_none() {
+        return Err(GivenError::TooDeep);
+    }
+    Ok(prepared)
+}
+
+/// How many levels a module may have by what is given: if it has more, as many as it has.
+fn most_levels(module: &Module) -> u32
+    ensures { result ≤ most_levels (module_tree «module».now) }
+{
+    match levels_of_module(module, u32::MAX) {
+        Some(levels) => levels.max(MOST_LEVELS),
+        None => MOST_LEVELS,
+    }
+}
+
+/// A module with all that flags give. Refuses where it would have more than `most` levels, before it is made.
+fn put_all(
+    alloc: Global,
+    flags: &[Flag<'_>],
+    mark: Mark,
+    module: Module,
+    most: u32,
+) -> Result<Module, GivenError>
+    ensures prepared { IfOk result (λ r. Prepared (map flag_texts flags.now) mark (module_tree «module») (module_tree r)) }
+    ensures stays { IfOk result (λ r. Stays (module_tree «module») (module_tree r)) }
+{
+    let Given { names, modules } = Given::read(alloc, flags, mark)?;
+    let constant = replace(alloc, modules, module)?;
+    put(alloc, &names, mark, constant, most)
+}
+
+/// A module with the values of imports of given modules.
+fn replace(alloc: Global, given: GivenModules<Expr>, module: Module) -> Result<Module, GivenError>
+    ensures { IfOk result (λ r. Replaces given (module_tree «module») (module_tree r)) }
+{
+    if given.modules.is_empty() {
+        return Ok(module);
+    }
+    let mut pass = ConstModules::new(given);
+    Ok(pass.fold_module(alloc, module)?)
+}
+
+/// A module with what is given for names and members. Refuses where it would have more than `most` levels, before it is made.
+fn put(
+    alloc: Global,
+    given: &GivenNames,
+    mark: Mark,
+    module: Module,
+    most: u32,
+) -> Result<Module, GivenError>
+    ensures { IfOk result (λ r. Puts given.now mark (module_tree «module») (module_tree r)) }
+{
+    if given.exprs.len() == 0 && given.envs.is_empty() && given.typeofs.is_empty() {
+        return Ok(module);
+    }
+    let mut constant = module;
+    let globals = BTreeMap::new(alloc);
+    let mut pass = inline_globals2(&given.envs, &globals, &given.exprs, &given.typeofs).with_mark(
+        mark,
+    );
+    // Of a cycle the pass tells the name.
+    if let Nesting::TooMany = pass.count_levels(alloc, &mut constant, most)? {
+        return Err(GivenError::TooDeep);
+    }
+    Ok(pass.fold_module(alloc, constant)?)
+}
