@@ -15,16 +15,16 @@ use Rattle.swc_ast.specs.Views.{expr_tree}
 use Rattle.swc_utils.specs.Effects.{has_record_spread, is_typeof}
 use Rattle.swc_utils.specs.Known.{pure_truth}
 use Rattle.swc_utils.specs.Pure.{has_spread, is_pure_callee}
-use Rattle.branch_rules.specs.Ignored.{Ignores, as_one, may_skip, properties_parts}
-use Rattle.branch_expressions.specs.Choices.{Decides, choice_tree}
+use Rattle.branch_rules.specs.Ignored.{Ignores, as_one, is_function_expression, may_skip, properties_parts}
+use Rattle.branch_expressions.specs.Choices.{Decides, choice_tree, only_tree}
 use Rattle.branch_expressions.specs.Left.{Adds, AddsItems, Leaves, Rested, is_change, other, tree_of}
 use Rattle.branch_expressions.specs.declared.rest.Rest.{Rest}
 use Rattle.branch_expressions.specs.declared.rest.Rest.TheVariants as rest
 use Rattle.branch_expressions.proofs.Adding.{same_adds, sequence_left}
 use Rattle.branch_expressions.proofs.Arms as arms
 use Rattle.branch_expressions.proofs.ArrayItems.{array_left, array_same}
-use Rattle.branch_expressions.proofs.Made.{rested, unary_left}
-use Rattle.branch_expressions.proofs.Nodes.{call_left, new_left, template_left, plain_array_left, object_left, sides_left}
+use Rattle.branch_expressions.proofs.Made.{at_tree, rested, unary_left}
+use Rattle.branch_expressions.proofs.Nodes.{call_left, new_left, only_left, template_left, plain_array_left, object_left, sides_left}
 
 leaves_at : (mark : ℕ) (x t : Tree) (r : Option Expr) → x ≡ t → Leaves mark x r → Leaves mark t r
 leaves_at mark x t r h l = subst (λ y. Leaves mark y r) h l
@@ -54,6 +54,10 @@ module _ (mark : ℕ) (o : BinaryOp) (s : Span) (a b u : Tree) where
   pub sides_rested : (p q : Tree) (xs ys zs : List Expr) (c d : Bool) (r : Option Expr) (k : Rest) (rs : List Span) → may_skip o ≡ false → xs ≡ [] → Adds mark (p ⊳ ε) xs ys c → p ≡ a → Adds mark (q ⊳ ε) ys zs d → q ≡ b → tree_of r ≡ as_one rs (list_trees expr_tree zs) → k ≡ other r → Rested mark (node (tree.Binary o) (s ∷ []) (a ⊳ b ⊳ ε)) u k
   sides_rested p q xs ys zs c d r k rs m none h ap₁ g aq is to = rested mark _ u r k to (sides_left mark o (s ∷ []) a b xs ys zs c d r rs m none (adds_at mark _ _ xs ys c (ap (λ z. z ⊳ ε) ap₁) h) (adds_at mark _ _ ys zs d (ap (λ z. z ⊳ ε) aq) g) is)
 
+  pub pure_rested : (x y : Tree) (p q r : Option Expr) (k : Rest) → may_skip o ≡ false → Ignores mark true a None → Ignores mark true b None → Leaves mark x p → x ≡ a → Leaves mark y q → y ≡ b → tree_of r ≡ only_tree (tree_of p) (tree_of q) → k ≡ other r → Rested mark (node (tree.Binary o) (s ∷ []) (a ⊳ b ⊳ ε)) u k
+  pure_rested x y p q r k m ga gb l ax n by is to =
+      rested mark _ u r k to (at_tree mark true _ is (only_left mark o (s ∷ []) a b (tree_of p) (tree_of q) m ga gb (leaves_at mark x a p ax l).ignores (leaves_at mark y b q by n).ignores))
+
 module _ (mark : ℕ) (s : Span) (t a b u : Tree) where
   pub cons_rested : (x y : Tree) (r : Option Expr) (k : Rest) → pure_truth mark y ≡ Some true → y ≡ t → Leaves mark x r → x ≡ a → k ≡ other r → Rested mark (node tree.Cond (s ∷ []) (t ⊳ a ⊳ b ⊳ ε)) u k
   cons_rested x y r k h at l ax is = rested mark _ u r k is (arms.cons_runs mark s t a b r (sym (ap (pure_truth mark) at) ∙ h) (leaves_at mark x a r ax l))
@@ -73,8 +77,8 @@ module _ (mark : ℕ) (ss : List Span) (ts : Forest) (u : Tree) (a b : List Expr
   pub call_rested : (s : Span) (f : Tree) → is_pure_callee f ≡ true → a ≡ [] → Adds mark ts a b c → tree_of r ≡ as_one rs (list_trees expr_tree b) → k ≡ other r → Rested mark (call_node s f ts) u k
   call_rested s f p none h is to = rested mark _ u r k to (call_left mark s f ts a b c r rs p none h is)
 
-  pub new_rested : (f : Tree) → is_pure_callee f ≡ true → a ≡ [] → Adds mark ts a b c → tree_of r ≡ as_one rs (list_trees expr_tree b) → k ≡ other r → Rested mark (node tree.New ss (f ⊳ ts)) u k
-  new_rested f p none h is to = rested mark _ u r k to (new_left mark ss f ts a b c r rs p none h is)
+  pub new_rested : (f : Tree) → is_function_expression f ≡ true → is_pure_callee f ≡ true → a ≡ [] → Adds mark ts a b c → tree_of r ≡ as_one rs (list_trees expr_tree b) → k ≡ other r → Rested mark (node tree.New ss (f ⊳ ts)) u k
+  new_rested f e p none h is to = rested mark _ u r k to (new_left mark ss f ts a b c r rs e p none h is)
 
   pub array_rested : (ks : List ItemKind) → has_spread ks ≡ false → a ≡ [] → Adds mark ts a b c → tree_of r ≡ as_one rs (list_trees expr_tree b) → k ≡ other r → Rested mark (node (tree.Array ks) ss ts) u k
   array_rested ks p none h is to = rested mark _ u r k to (plain_array_left mark ks ss ts a b c r rs p none h is)

@@ -15,6 +15,7 @@ use Rattle.swc_ast.specs.Scope.{joined}
 use Rattle.swc_ast.specs.Tree.{Key, KeyValue, Object, PlainKey, Tree, node, Forest, ε, ◌⊳◌}
 use Rattle.swc_ast.specs.Views.{expr_tree, prop_tree, prop_or_spread_tree}
 use Rattle.swc_ast.proofs.Equations.{prop_or_spread_tree-Prop, prop_tree-KeyValue}
+use Rattle.swc_utils.specs.Literals.{is_literal}
 use Rattle.swc_utils.specs.Pure.{pure}
 use Rattle.swc_utils.proofs.Chains.{joined_assoc, joined_none, pushed}
 use Rattle.branch_rules.specs.Ignored.{Ignores, PropertiesLeft, properties_left, no_properties, property_goes, property_stays}
@@ -36,7 +37,7 @@ abbrev pub SoFar : ℕ → Bool → List PropOrSpread → List PropOrSpread → 
 SoFar mark c out rest all = (d : Bool) (vs : Forest) → PropertiesLeft mark d (list_trees prop_or_spread_tree rest) vs → PropertiesLeft mark (c || d) (list_trees prop_or_spread_tree all) (joined (list_trees prop_or_spread_tree out) vs)
 
 goes_first : (mark : ℕ) (t : Tree) (d : Bool) (ts vs : Forest) → Goes mark t → PropertiesLeft mark d ts vs → PropertiesLeft mark true (t ⊳ ts) vs
-goes_first mark t d ts vs g h = subst (λ x. PropertiesLeft mark true (x ⊳ ts) vs) (sym (g.is ∙ ap (λ k. node KeyValue g.spans (k ⊳ g.value ⊳ ε)) g.plain.is)) (property_goes g.plain.key g.spans g.plain.spans g.value g.pure h)
+goes_first mark t d ts vs g h = subst (λ x. PropertiesLeft mark true (x ⊳ ts) vs) (sym (g.is ∙ ap (λ k. node KeyValue g.spans (k ⊳ g.value ⊳ ε)) g.plain.is)) (property_goes g.plain.key g.spans g.plain.spans g.value g.literal g.pure h)
 
 or_true : (c : Bool) → (c || true) ≡ true
 or_true true = refl
@@ -53,7 +54,7 @@ kept_all mark c out all it end h = subst (λ b. PropertiesLeft mark b (list_tree
 
 pub same_props : (mark : ℕ) (c : Bool) (ts us : Forest) → c ≡ false → PropertiesLeft mark c ts us → us ≡ ts
 same_props mark c ts us h no_properties = refl
-same_props mark c ts us h (property_goes k ss rs v p g) = cc
+same_props mark c ts us h (property_goes k ss rs v l p g) = cc
 same_props mark c ts us h (property_stays t {cs = cs} {vs = vs} g) = ap (λ xs. t ⊳ xs) (same_props mark c cs vs h g)
 
 -- objects with a spread
@@ -64,18 +65,19 @@ object_changed mark ss c ps qs rs u e h k is = subst (λ x. Ignores mark true (n
 pub object_kept : (mark : ℕ) (ss : List Span) (c : Bool) (ps qs : List PropOrSpread) → c ≡ false → PropertiesLeft mark c (list_trees prop_or_spread_tree ps) (list_trees prop_or_spread_tree qs) → node Object ss (list_trees prop_or_spread_tree qs) ≡ node Object ss (list_trees prop_or_spread_tree ps)
 object_kept mark ss c ps qs h k = ap (node Object ss) (same_props mark c (list_trees prop_or_spread_tree ps) (list_trees prop_or_spread_tree qs) h k)
 
-not_not : (b p : Bool) → b ≡ not p → not b ≡ true → p ≡ true
+pub not_not : (b p : Bool) → b ≡ not p → not b ≡ true → p ≡ true
 not_not b true h k = refl
 not_not b false h k = cc
 
-pub goes_prop : (mark : ℕ) (p : PropOrSpread) (q : Prop) (n : KeyValueProp Expr) (b : Bool) → p ≡ in_prop_or_spread.Prop q → q ≡ in_prop.KeyValue n → IsPlainKey (key_tree expr_tree n.key) → b ≡ not (pure mark (expr_tree n.value.value)) → not b ≡ true → Goes mark (prop_or_spread_tree p)
-goes_prop mark p q n b is at k h g = record {
+pub goes_prop : (mark : ℕ) (p : PropOrSpread) (q : Prop) (n : KeyValueProp Expr) → p ≡ in_prop_or_spread.Prop q → q ≡ in_prop.KeyValue n → IsPlainKey (key_tree expr_tree n.key) → is_literal (expr_tree n.value.value) ≡ true → pure mark (expr_tree n.value.value) ≡ true → Goes mark (prop_or_spread_tree p)
+goes_prop mark p q n is at k l h = record {
   key = key_tree expr_tree n.key;
   value = expr_tree n.value.value;
   spans = [];
   plain = k;
   is = ap prop_or_spread_tree is ∙ prop_or_spread_tree-Prop q ∙ ap prop_tree at ∙ prop_tree-KeyValue n;
-  pure = not_not b (pure mark (expr_tree n.value.value)) h g;
+  literal = l;
+  pure = h;
 }
 
 -- a loop over an iterator that adds the trees of its items

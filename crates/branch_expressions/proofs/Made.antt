@@ -101,6 +101,10 @@ goes_pure mark e b h k = by (pure mark (expr_tree e)) refl (sym k ∙ h)
     by true i g = goes (expr_tree e) (is_an_expression e) i
     by false i g = cc
 
+pub idle_goes : (mark : ℕ) (e : Expr) (b : Bool) → b ≡ not (pure mark (expr_tree e)) → not b ≡ true → Ignores mark true (expr_tree e) None
+idle_goes mark e true h k = cc
+idle_goes mark e false h k = goes_pure mark e false h refl
+
 -- what is left, moved
 pub some_left : (mark : ℕ) (t : Tree) (b c : Bool) (o : Option Expr) (e : Expr) → b ≡ c → o ≡ Some e → Ignores mark c t (tree_of o) → Ignores mark b t (Some (expr_tree e))
 some_left mark t b c o e is at h = subst (λ d. Ignores mark d t (Some (expr_tree e))) (sym is) (subst (λ x. Ignores mark c t (tree_of x)) at h)

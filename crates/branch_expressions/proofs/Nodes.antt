@@ -16,8 +16,9 @@ use Rattle.swc_ast.specs.Views.{expr_tree, prop_or_spread_tree}
 use Rattle.swc_utils.specs.Effects.{has_record_spread, is_record_spread}
 use Rattle.swc_utils.specs.Pure.{has_spread, is_pure_callee}
 use Rattle.swc_utils.proofs.Chains.{joined_assoc, joined_none}
-use Rattle.branch_rules.specs.Ignored.{Ignores, Opens, operand, sides, items, properties, texts, arguments, new_arguments, as_one, may_skip, key_parts, property_parts, properties_parts}
+use Rattle.branch_rules.specs.Ignored.{Ignores, Opens, opened, none_left, one_goes, one_left, operand, sides, items, properties, texts, arguments, new_arguments, is_function_expression, as_one, may_skip, key_parts, property_parts, properties_parts}
 use Rattle.branch_rules.specs.Expressions.{ExpressionStep, same_arms, always_void}
+use Rattle.branch_expressions.specs.Choices.{only_tree}
 use Rattle.branch_expressions.specs.Properties.{own_parts}
 use Rattle.branch_expressions.specs.Left.{Adds, Leaves, Rested, is_change, tree_of}
 use Rattle.branch_expressions.specs.declared.rest.Rest.{Rest}
@@ -36,8 +37,8 @@ call_is s (node l ss cs) ts h = refl
 pub call_left : (mark : ℕ) (s : Span) (t : Tree) (ts : Forest) (a b : List Expr) (c : Bool) (r : Option Expr) (rs : List Span) → is_pure_callee t ≡ true → a ≡ [] → Adds mark ts a b c → tree_of r ≡ as_one rs (list_trees expr_tree b) → Ignores mark true (call_node s t ts) (tree_of r)
 call_left mark s t ts a b c r rs p none h is = subst (λ x. Ignores mark true x (tree_of r)) (sym (call_is s t ts p)) (opened_left mark _ ts a b c r rs none (arguments (s ∷ []) t ts p) h is)
 
-pub new_left : (mark : ℕ) (ss : List Span) (t : Tree) (ts : Forest) (a b : List Expr) (c : Bool) (r : Option Expr) (rs : List Span) → is_pure_callee t ≡ true → a ≡ [] → Adds mark ts a b c → tree_of r ≡ as_one rs (list_trees expr_tree b) → Ignores mark true (node tree.New ss (t ⊳ ts)) (tree_of r)
-new_left mark ss t ts a b c r rs p none h is = opened_left mark _ ts a b c r rs none (new_arguments ss t ts p) h is
+pub new_left : (mark : ℕ) (ss : List Span) (t : Tree) (ts : Forest) (a b : List Expr) (c : Bool) (r : Option Expr) (rs : List Span) → is_function_expression t ≡ true → is_pure_callee t ≡ true → a ≡ [] → Adds mark ts a b c → tree_of r ≡ as_one rs (list_trees expr_tree b) → Ignores mark true (node tree.New ss (t ⊳ ts)) (tree_of r)
+new_left mark ss t ts a b c r rs f p none h is = opened_left mark _ ts a b c r rs none (new_arguments ss t ts f p) h is
 
 pub template_left : (mark : ℕ) (qs : List (Text × Bool)) (ss : List Span) (ts : Forest) (a b : List Expr) (c : Bool) (r : Option Expr) (rs : List Span) → a ≡ [] → Adds mark ts a b c → tree_of r ≡ as_one rs (list_trees expr_tree b) → Ignores mark true (node (tree.Template qs) ss ts) (tree_of r)
 template_left mark qs ss ts a b c r rs none h is = opened_left mark _ ts a b c r rs none (texts qs ss ts) h is
@@ -50,6 +51,13 @@ object_left mark ss ts a b c r rs p none h is = opened_left mark _ (properties_p
 
 pub sides_left : (mark : ℕ) (o : BinaryOp) (ss : List Span) (x y : Tree) (a m b : List Expr) (c d : Bool) (r : Option Expr) (rs : List Span) → may_skip o ≡ false → a ≡ [] → Adds mark (x ⊳ ε) a m c → Adds mark (y ⊳ ε) m b d → tree_of r ≡ as_one rs (list_trees expr_tree b) → Ignores mark true (node (tree.Binary o) ss (x ⊳ y ⊳ ε)) (tree_of r)
 sides_left mark o ss x y a m b c d r rs p none h k is = opened_left mark _ (x ⊳ y ⊳ ε) a b (c || d) r rs none (sides o ss x y p) (adds_both mark (x ⊳ ε) (y ⊳ ε) a m b c d h k) is
+
+-- of two sides that have no effect what is left of one, where nothing is left of the other
+pub only_left : (mark : ℕ) (o : BinaryOp) (ss : List Span) (a b : Tree) (p q : Option Tree) → may_skip o ≡ false → Ignores mark true a None → Ignores mark true b None → {c d : Bool} → Ignores mark c a p → Ignores mark d b q → Ignores mark true (node (tree.Binary o) ss (a ⊳ b ⊳ ε)) (only_tree p q)
+only_left mark o ss a b None None m ga gb h k = opened ss (sides o ss a b m) (one_goes a ga (one_goes b gb none_left))
+only_left mark o ss a b (Some v) None m ga gb h k = opened ss (sides o ss a b m) (one_left a v h (one_goes b gb none_left))
+only_left mark o ss a b None (Some w) m ga gb h k = opened ss (sides o ss a b m) (one_goes a ga (one_left b w k none_left))
+only_left mark o ss a b (Some v) (Some w) m ga gb h k = opened ss (sides o ss a b m) (one_goes a ga (one_goes b gb none_left))
 
 -- properties
 

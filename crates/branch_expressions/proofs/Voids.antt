@@ -9,12 +9,15 @@ use Rattle.swc_ast.specs.declared.expressions.Expr.{Expr}
 use Rattle.swc_ast.specs.declared.expressions.Expr.TheVariants as in_expr
 use Rattle.swc_ast.specs.declared.expressions.UnaryExpr.{UnaryExpr}
 use Rattle.swc_ast.specs.Expressions.{unary_node}
+use Rattle.swc_ast.specs.declared.literals.Lit.{Lit}
+use Rattle.swc_ast.specs.declared.literals.Lit.TheVariants as in_lit
+use Rattle.swc_ast.specs.Parts.{lit_tree}
 use Rattle.swc_ast.specs.Views.{expr_tree}
+use Rattle.swc_ast.proofs.Equations.{expr_tree-Lit}
 use Rattle.swc_ast.proofs.Places.{at_expr-Unary}
 use Rattle.swc_utils.specs.Pure.{pure}
 use Rattle.expr_rules.specs.Defaults.{is_void}
-use Rattle.branch_rules.specs.Expressions.{always_void}
-use Rattle.branch_expressions.specs.Choices.{IsNumber}
+use Rattle.branch_rules.specs.Expressions.{always_void, is_literal_leaf}
 
 -- `void` of an operand
 void_node : (o : UnaryOp) (s : Span) (t : Tree) → o ≡ op.Void → unary_node o s t ≡ node (tree.Unary op.Void) (s ∷ []) (t ⊳ ε)
@@ -25,8 +28,19 @@ void_node o s t h = ap (λ p. unary_node p s t) h
 void_is : (e : Expr) (n : UnaryExpr Expr) → e ≡ in_expr.Unary n → n.op ≡ op.Void → expr_tree e ≡ node (tree.Unary op.Void) (n.span ∷ []) (expr_tree n.arg.value ⊳ ε)
 void_is e n is h = at_expr-Unary e n is ∙ void_node n.op n.span (expr_tree n.arg.value) h
 
-pub always_void_at : (mark : ℕ) (e : Expr) (n : UnaryExpr Expr) → e ≡ in_expr.Unary n → n.op ≡ op.Void → IsNumber (expr_tree n.arg.value) → always_void mark (expr_tree e) ≡ true
-always_void_at mark e n is h k = ap (always_void mark) (void_is e n is h ∙ ap (λ t. node (tree.Unary op.Void) (n.span ∷ []) (t ⊳ ε)) k.is)
+pub always_void_at : (mark : ℕ) (e : Expr) (n : UnaryExpr Expr) → e ≡ in_expr.Unary n → n.op ≡ op.Void → is_literal_leaf (expr_tree n.arg.value) ≡ true → always_void mark (expr_tree e) ≡ true
+always_void_at mark e n is h k = ap (always_void mark) (void_is e n is h) ∙ k
+
+-- literals
+
+lit_simple : (n : Lit) → is_literal_leaf (lit_tree n) ≡ true
+lit_simple (in_lit.Str n) = refl
+lit_simple (in_lit.Num n) = refl
+lit_simple (in_lit.Bool n) = refl
+lit_simple (in_lit.Null n) = refl
+
+pub literal_at : (e : Expr) (n : Lit) → e ≡ in_expr.Lit n → is_literal_leaf (expr_tree e) ≡ true
+literal_at e n is = ap is_literal_leaf (ap expr_tree is ∙ expr_tree-Lit n) ∙ lit_simple n
 
 not_not : (b p : Bool) → b ≡ not p → not b ≡ true → p ≡ true
 not_not b true h k = refl

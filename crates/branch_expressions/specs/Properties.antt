@@ -3,6 +3,7 @@ use Rattle.std.specs.Prelude.{ℕ, ◌≡◌, true, if◌then◌else◌, List}
 use Rattle.swc_ast.specs.declared.Span.{Span}
 use Rattle.swc_ast.specs.Tree.{Key, KeyValue, PlainKey, Tree, node, Forest, ε, ◌⊳◌}
 use Rattle.swc_utils.specs.Effects.{is_record_spread}
+use Rattle.swc_utils.specs.Literals.{is_literal}
 use Rattle.swc_utils.specs.Pure.{pure}
 use Rattle.branch_rules.specs.Ignored.{property_parts}
 
@@ -16,11 +17,12 @@ pub record IsPlainKey (t : Tree) : Type 0 where
   pub spans : List Span
   pub is : t ≡ node (PlainKey key) spans ε
 
--- `key: value` of such a key and a pure value
+-- `key: value` of such a key and a literal, which is pure
 pub record Goes (mark : ℕ) (t : Tree) : Type 0 where
   pub key : Tree
   pub value : Tree
   pub spans : List Span
   pub plain : IsPlainKey key
   pub is : t ≡ node KeyValue spans (key ⊳ value ⊳ ε)
+  pub literal : is_literal value ≡ true
   pub pure : pure mark value ≡ true

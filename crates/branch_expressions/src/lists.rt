@@ -1,14 +1,15 @@
 //! What is left of sequences, calls, templates and arrays whose values are not used.
-ghost use Rattle.std.specs.Prelude.{◌≡◌, ◌∷◌, ◌++◌, [], map, IfOk, OnOk};
+ghost use Rattle.std.specs.Prelude.{◌≡◌, ◌∷◌, ◌++◌, [], map, IfOk, IsTrue, OnOk, true};
 ghost use Rattle.swc_ast.specs.Expressions.{array_tree, call_tree, item_kind, item_spans, item_trees, new_tree, seq_tree, spread_kind, tpl_tree, with_span};
 ghost use Rattle.swc_ast.specs.Scope.{joined};
 ghost use Rattle.swc_ast.specs.Tree.{ε, ◌⊳◌};
 ghost use Rattle.swc_ast.specs.Views.{expr_tree};
 ghost use Rattle.swc_utils.specs.Globals.{unresolved};
-ghost use Rattle.swc_utils.specs.Pure.{has_spread as kinds_have_spread};
+ghost use Rattle.swc_utils.specs.Pure.{has_spread as kinds_have_spread, is_pure_callee};
+ghost use Rattle.branch_rules.specs.Ignored.{is_function_expression};
 ghost use Rattle.branch_expressions.specs.Left.{AddsItems, AddsPlain, Rested};
 
-use crate::ignored::rest_of;
+use crate::ignored::{Words, rest_of};
 use crate::parts::{add_all, add_items};
 use crate::rest::{Rest, as_one, changed, moved, take};
 use std::alloc::{AllocError, Global};
@@ -25,7 +26,7 @@ pub(crate) fn rest_of_sequence(
     ensures { IfOk result (λ r. Rested (unresolved ctx.now) (seq_tree expr_tree n.old) (seq_tree expr_tree n.new) r) }
 {
     let mut out = Vec::new(alloc);
-    let made = add_all(alloc, ctx, &mut n.exprs, &mut out)?;
+    let made = add_all(alloc, ctx, Words::Stay, &mut n.exprs, &mut out)?;
     if made {
         return Ok(changed(as_one(n.span, out)));
     }
@@ -43,7 +44,7 @@ pub(crate) fn rest_of_template(
     ensures { IfOk result (λ r. Rested (unresolved ctx.now) (tpl_tree expr_tree n.old) (tpl_tree expr_tree n.new) r) }
 {
     let mut out = Vec::new(alloc);
-    add_all(alloc, ctx, &mut n.exprs, &mut out)?;
+    add_all(alloc, ctx, Words::Go, &mut n.exprs, &mut out)?;
     Ok(changed(as_one(n.span, out)))
 }
 
@@ -61,21 +62,33 @@ pub(crate) fn rest_of_call(
         return Ok(Rest::Same);
     }
     let mut out = Vec::new(alloc);
-    add_all(alloc, ctx, &mut n.args, &mut out)?;
+    add_all(alloc, ctx, Words::Go, &mut n.args, &mut out)?;
     Ok(changed(as_one(n.span, out)))
 }
 
-/// `new` of a function that does nothing goes.
+/// Whether a callee is a function expression that does nothing; `new` of an arrow throws.
+#[tactic(auto, using(swc_ast::proofs::Equations::forms))]
+fn is_idle_function(ctx: &ExprCtx, e: &Expr) -> bool
+    ensures function { IsTrue result → is_function_expression (expr_tree e.now) ≡ true }
+    ensures idle { IsTrue result → is_pure_callee (expr_tree e.now) ≡ true }
+{
+    match e {
+        Expr::Fn(_) => e.is_pure_callee(ctx),
+        _ => false,
+    }
+}
+
+/// `new` of a function expression that does nothing goes.
 #[cycle(ignore)]
 #[tactic(auto, using(crate::proofs::Answered::new_rested))]
 pub(crate) fn rest_of_new(alloc: Global, ctx: &ExprCtx, n: &mut NewExpr) -> Result<Rest, AllocError>
     ensures { IfOk result (λ r. Rested (unresolved ctx.now) (new_tree expr_tree n.old) (new_tree expr_tree n.new) r) }
 {
-    if !n.callee.is_pure_callee(ctx) {
+    if !is_idle_function(ctx, &n.callee) {
         return Ok(Rest::Same);
     }
     let mut out = Vec::new(alloc);
-    add_all(alloc, ctx, &mut n.args, &mut out)?;
+    add_all(alloc, ctx, Words::Go, &mut n.args, &mut out)?;
     Ok(changed(as_one(n.span, out)))
 }
 

@@ -1,20 +1,23 @@
 //! What is left of objects whose values are not used.
-ghost use Rattle.std.specs.Prelude.{◌≡◌, false, IfOk, IsTrue};
+ghost use Rattle.std.specs.Prelude.{◌≡◌, false, true, IfOk, IsTrue};
 ghost use Rattle.swc_ast.specs.Expressions.{key_tree, object_tree, shorthand_tree};
 ghost use Rattle.swc_ast.specs.Parts.{list_trees};
 ghost use Rattle.swc_ast.specs.Views.{expr_tree, prop_or_spread_tree};
 ghost use Rattle.swc_utils.specs.Effects.{has_record_spread, is_record_spread as tree_is_record_spread};
 ghost use Rattle.swc_utils.specs.Globals.{unresolved};
+ghost use Rattle.swc_utils.specs.Literals.{is_literal as tree_is_literal};
+ghost use Rattle.swc_utils.specs.Pure.{pure};
 ghost use Rattle.branch_rules.specs.Ignored.{PropertiesLeft, key_parts, properties_parts, property_parts};
 ghost use Rattle.branch_expressions.specs.Left.{Adds, Rested};
 ghost use Rattle.branch_expressions.specs.Properties.{Goes, IsPlainKey, own_parts};
 
+use crate::ignored::Words;
 use crate::parts::add;
 use crate::rest::{Rest, as_one, changed};
 use std::alloc::{AllocError, Global};
 use std::mem;
 use swc_ast::{Expr, Ident, KeyValueProp, ObjectLit, Prop, PropName, PropOrSpread};
-use swc_utils::{ExprCtx, ExprExt};
+use swc_utils::{ExprCtx, ExprExt, is_literal};
 
 /// Whether a property is a spread.
 #[tactic(auto, using(swc_ast::proofs::Equations::forms))]
@@ -98,7 +101,7 @@ fn add_prop(
             Prop::Shorthand(n) => add_shorthand(alloc, ctx, n, out),
             Prop::KeyValue(n) => {
                 let key = add_key(alloc, ctx, &mut n.key, out)?;
-                let value = add(alloc, ctx, &mut n.value, out)?;
+                let value = add(alloc, ctx, Words::Go, &mut n.value, out)?;
                 Ok(key | value)
             }
             Prop::Method(n) => add_key(alloc, ctx, &mut n.key, out),
@@ -143,7 +146,7 @@ fn add_key(
         PropName::Str(_) => Ok(false),
         PropName::Num(_) => Ok(false),
         PropName::Computed(n) => {
-            let made = add(alloc, ctx, &mut n.expr, out)?;
+            let made = add(alloc, ctx, Words::Go, &mut n.expr, out)?;
             Ok(made)
         }
     }
@@ -159,7 +162,15 @@ fn has_plain_key(n: &KeyValueProp) -> bool
     }
 }
 
-/// Whether a property is `key: value` of a plain key and a pure value.
+/// Whether an expression is a literal, without effect.
+fn is_pure_literal(ctx: &ExprCtx, e: &Expr) -> bool
+    ensures literal { IsTrue result → tree_is_literal (expr_tree e.now) ≡ true }
+    ensures idle { IsTrue result → pure (unresolved ctx.now) (expr_tree e.now) ≡ true }
+{
+    is_literal(e) && !e.may_have_side_effects(ctx)
+}
+
+/// Whether a property is `key: value` of a plain key and a literal value, which is pure.
 #[tactic(auto, using(crate::proofs::Kept::goes_prop))]
 fn goes(ctx: &ExprCtx, prop: &PropOrSpread) -> bool
     ensures { IsTrue result → Goes (unresolved ctx.now) (prop_or_spread_tree prop.now) }
@@ -168,7 +179,7 @@ fn goes(ctx: &ExprCtx, prop: &PropOrSpread) -> bool
         PropOrSpread::Spread(_) => false,
         PropOrSpread::Prop(prop) => match prop {
             Prop::Shorthand(_) => false,
-            Prop::KeyValue(n) => has_plain_key(n) && !n.value.may_have_side_effects(ctx),
+            Prop::KeyValue(n) => has_plain_key(n) && is_pure_literal(ctx, &n.value),
             Prop::Method(_) => false,
         },
     }
@@ -195,7 +206,7 @@ fn kept_props(
     Ok((changed, out))
 }
 
-/// What is left of an object with a spread: an object, without properties that have no effect.
+/// What is left of an object with a spread: an object, without its literal properties.
 #[tactic(auto, using(swc_ast::proofs::Equations::forms, crate::proofs::Kept::object_changed, crate::proofs::Kept::object_kept))]
 fn rest_of_spread(alloc: Global, ctx: &ExprCtx, n: &mut ObjectLit) -> Result<Rest, AllocError>
     ensures { IfOk result (λ r. Rested (unresolved ctx.now) (object_tree prop_or_spread_tree n.old) (object_tree prop_or_spread_tree n.new) r) }

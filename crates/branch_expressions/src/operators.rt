@@ -1,16 +1,16 @@
 //! What is left of operators, choices and assignments whose values are not used.
-ghost use Rattle.std.specs.Prelude.{◌≡◌, ◌∷◌, ◌||◌, [], false, true, IfOk, IfSome};
+ghost use Rattle.std.specs.Prelude.{◌≡◌, ◌∷◌, ◌||◌, [], false, true, IfOk, IfSome, IsTrue, None};
 ghost use Rattle.swc_ast.specs.declared.BinaryOp.TheVariants as op;
 ghost use Rattle.swc_ast.specs.Expressions.{assign_tree, bin_tree, cond_tree, unary_tree};
 ghost use Rattle.swc_ast.specs.Views.{expr_tree};
 ghost use Rattle.swc_utils.specs.Effects.{is_typeof};
 ghost use Rattle.swc_utils.specs.Globals.{unresolved};
-ghost use Rattle.branch_rules.specs.Ignored.{may_skip as op_may_skip, skips as op_skips};
+ghost use Rattle.branch_rules.specs.Ignored.{Ignores, may_skip as op_may_skip, skips as op_skips};
 ghost use Rattle.expr_rules.specs.Equality.{is_nullish_type};
 ghost use Rattle.branch_expressions.specs.Left.{Rested, is_change as tree_is_change, tree_of};
-ghost use Rattle.branch_expressions.specs.Choices.{Decides, are_none, choice_tree};
+ghost use Rattle.branch_expressions.specs.Choices.{Decides, are_none, choice_tree, only_tree};
 
-use crate::ignored::{left_of, rest_of};
+use crate::ignored::{Words, is_idle, left_of, rest_of};
 use crate::parts::add;
 use crate::rest::{Rest, as_one, binary_expr, changed, cond_expr, moved, take};
 use crate::rules::is_itself;
@@ -52,7 +52,7 @@ pub(crate) fn rest_of_unary(
     if !opens(n.op, &n.arg) {
         return Ok(Rest::Same);
     }
-    let left = left_of(alloc, ctx, &mut n.arg)?;
+    let left = left_of(alloc, ctx, Words::Stay, &mut n.arg)?;
     Ok(changed(left))
 }
 
@@ -132,10 +132,53 @@ pub(crate) fn rest_of_binary(
     if may_skip(n.op) {
         return rest_of_choice(alloc, ctx, n);
     }
+    if are_idle(ctx, n) {
+        return rest_of_pure(alloc, ctx, n);
+    }
     let mut out = Vec::new(alloc);
-    add(alloc, ctx, &mut n.left, &mut out)?;
-    add(alloc, ctx, &mut n.right, &mut out)?;
+    add(alloc, ctx, Words::Go, &mut n.left, &mut out)?;
+    add(alloc, ctx, Words::Go, &mut n.right, &mut out)?;
     Ok(changed(as_one(n.span, out)))
+}
+
+/// Whether no side has an effect.
+fn are_idle(ctx: &ExprCtx, n: &BinExpr) -> bool
+    ensures left { IsTrue result → Ignores (unresolved ctx.now) true (expr_tree n.now.left.value) None }
+    ensures right { IsTrue result → Ignores (unresolved ctx.now) true (expr_tree n.now.right.value) None }
+{
+    is_idle(ctx, &n.left) && is_idle(ctx, &n.right)
+}
+
+/// Of two sides what is left of one, where nothing is left of the other.
+fn only_one(left: Option<Expr>, right: Option<Expr>) -> Option<Expr>
+    ensures { tree_of result ≡ only_tree (tree_of left) (tree_of right) }
+{
+    match (left, right) {
+        (Some(left), None) => Some(left),
+        (None, Some(right)) => Some(right),
+        (Some(_), Some(_)) | (None, None) => None,
+    }
+}
+
+/// The same of two sides that have no effect.
+#[cycle(ignore)]
+fn rest_of_pure(alloc: Global, ctx: &ExprCtx, n: &mut BinExpr) -> Result<Rest, AllocError>
+    requires evaluated { op_may_skip n.old.op ≡ false }
+    requires left { Ignores (unresolved ctx.now) true (expr_tree n.old.left.value) None }
+    requires right { Ignores (unresolved ctx.now) true (expr_tree n.old.right.value) None }
+    ensures { IfOk result (λ r. Rested (unresolved ctx.now) (bin_tree expr_tree n.old) (bin_tree expr_tree n.new) r) }
+{
+    let left = left_of(alloc, ctx, Words::Stay, &mut n.left)?;
+    let right = left_of(alloc, ctx, Words::Stay, &mut n.right)?;
+    Ok(changed(only_one(left, right)))
+}
+
+/// What becomes of a pure left side that tells that the right one is skipped.
+fn words_left(op: BinaryOp) -> Words {
+    match op {
+        BinaryOp::NullishCoalescing => Words::Stay,
+        _ => Words::Go,
+    }
 }
 
 /// `&&`, `||` and `??`
@@ -147,11 +190,11 @@ fn rest_of_choice(alloc: Global, ctx: &ExprCtx, n: &mut BinExpr) -> Result<Rest,
 {
     match skips_right(ctx, n.op, &n.left) {
         Some(true) => {
-            let left = left_of(alloc, ctx, &mut n.left)?;
+            let left = left_of(alloc, ctx, words_left(n.op), &mut n.left)?;
             Ok(changed(left))
         }
         Some(false) => {
-            let right = left_of(alloc, ctx, &mut n.right)?;
+            let right = left_of(alloc, ctx, Words::Stay, &mut n.right)?;
             Ok(changed(right))
         }
         None => rest_of_guarded(alloc, ctx, n),
@@ -168,7 +211,7 @@ fn rest_of_guarded(alloc: Global, ctx: &ExprCtx, n: &mut BinExpr) -> Result<Rest
     match rest_of(alloc, ctx, &mut n.right)? {
         Rest::Same => Ok(Rest::Same),
         Rest::Nothing => {
-            let left = left_of(alloc, ctx, &mut n.left)?;
+            let left = left_of(alloc, ctx, Words::Stay, &mut n.left)?;
             Ok(changed(left))
         }
         Rest::Other(right) => {
@@ -190,11 +233,11 @@ pub(crate) fn rest_of_cond(
 {
     match n.test.as_pure_bool(ctx) {
         Value::Known(true) => {
-            let cons = left_of(alloc, ctx, &mut n.cons)?;
+            let cons = left_of(alloc, ctx, Words::Stay, &mut n.cons)?;
             Ok(changed(cons))
         }
         Value::Known(false) => {
-            let alt = left_of(alloc, ctx, &mut n.alt)?;
+            let alt = left_of(alloc, ctx, Words::Stay, &mut n.alt)?;
             Ok(changed(alt))
         }
         Value::Unknown => rest_of_arms(alloc, ctx, n),
@@ -235,7 +278,7 @@ fn rest_of_arms(alloc: Global, ctx: &ExprCtx, n: &mut CondExpr) -> Result<Rest, 
     let cons = moved(&mut n.cons, cons);
     let alt = moved(&mut n.alt, alt);
     if are_gone(&cons, &alt) {
-        let test = left_of(alloc, ctx, &mut n.test)?;
+        let test = left_of(alloc, ctx, Words::Stay, &mut n.test)?;
         return Ok(changed(test));
     }
     let test = take(&mut n.test);

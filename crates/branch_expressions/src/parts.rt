@@ -10,7 +10,7 @@ ghost use Rattle.branch_rules.specs.Ignored.{Ignores};
 ghost use Rattle.branch_expressions.specs.Choices.{IsSequence};
 ghost use Rattle.branch_expressions.specs.Left.{Adds};
 
-use crate::ignored::rest_of;
+use crate::ignored::{Words, goes, rest_of};
 use crate::rest::moved;
 use std::alloc::{AllocError, Global};
 use std::mem;
@@ -66,11 +66,15 @@ fn push_left(
 pub(crate) fn add(
     alloc: Global,
     ctx: &ExprCtx,
+    words: Words,
     e: &mut Expr,
     out: &mut Vec<Expr>,
 ) -> Result<bool, AllocError>
     ensures { IfOk result (λ c. Adds (unresolved ctx.now) (expr_tree e.old ⊳ ε) out.old.items out.new.items c) }
 {
+    if goes(ctx, words, e) {
+        return Ok(true);
+    }
     let rest = rest_of(alloc, ctx, e)?;
     let is_change = rest.is_change();
     match moved(e, rest) {
@@ -87,6 +91,7 @@ pub(crate) fn add(
 pub(crate) fn add_all(
     alloc: Global,
     ctx: &ExprCtx,
+    words: Words,
     es: &mut Vec<Expr>,
     out: &mut Vec<Expr>,
 ) -> Result<bool, AllocError>
@@ -94,13 +99,13 @@ pub(crate) fn add_all(
 {
     let mut changed = false;
     for i in 0..es.len() {
-        let made = add(alloc, ctx, &mut es[i], out)?;
+        let made = add(alloc, ctx, words, &mut es[i], out)?;
         changed = changed | made;
     }
     Ok(changed)
 }
 
-/// Adds what is left of an array's item; a hole is none.
+/// Adds what is left of an array's item but a pure one; a hole is none.
 #[cycle(ignore)]
 #[tactic(auto, using(crate::proofs::Adding::adds_none))]
 fn add_item(
@@ -113,7 +118,7 @@ fn add_item(
 {
     match item {
         Some(n) => {
-            let made = add(alloc, ctx, &mut n.expr, out)?;
+            let made = add(alloc, ctx, Words::Go, &mut n.expr, out)?;
             Ok(made)
         }
         None => Ok(false),

@@ -6,14 +6,15 @@ ghost use Rattle.swc_ast.specs.Parts.{ident_name};
 ghost use Rattle.swc_ast.specs.Views.{expr_tree};
 ghost use Rattle.swc_utils.specs.Globals.{unresolved};
 ghost use Rattle.expr_rules.specs.Defaults.{is_void as tree_is_void};
-ghost use Rattle.branch_rules.specs.Expressions.{Becomes, always_void as tree_always_void};
-ghost use Rattle.branch_expressions.specs.Choices.{IsName, IsNumber, Itself};
+ghost use Rattle.branch_rules.specs.Expressions.{Becomes, always_void as tree_always_void, is_literal_leaf};
+ghost use Rattle.branch_expressions.specs.Choices.{IsName, Itself};
 
+use crate::ignored::Words;
 use crate::parts::add_all;
 use crate::rest::take;
 use std::alloc::{AllocError, Global};
 use swc_ast::{
-    AssignExpr, AssignOp, AssignTarget, CondExpr, Expr, Ident, Lit, SeqExpr, SyntaxContext, UnaryOp,
+    AssignExpr, AssignOp, AssignTarget, CondExpr, Expr, Ident, SeqExpr, SyntaxContext, UnaryOp,
 };
 use swc_utils::{ExprCtx, ExprExt};
 
@@ -67,7 +68,7 @@ pub fn fold_front(alloc: Global, ctx: &ExprCtx, n: &mut SeqExpr) -> Result<Optio
     let mut out = Vec::new(alloc);
     match n.exprs.pop() {
         Some(last) => {
-            let changed = add_all(alloc, ctx, &mut n.exprs, &mut out)?;
+            let changed = add_all(alloc, ctx, Words::Stay, &mut n.exprs, &mut out)?;
             if !changed {
                 out.push(last)?;
                 n.exprs = out;
@@ -94,28 +95,24 @@ pub fn fold_itself(ctx: &ExprCtx, n: &mut AssignExpr) -> Option<Expr>
     None
 }
 
-/// Whether an expression is a number literal.
-#[tactic(auto, using(swc_ast::proofs::Equations::forms))]
-fn is_number(e: &Expr) -> bool
-    ensures { IsTrue result → IsNumber (expr_tree e.now) }
+/// Whether an expression is a number, a text, a truth value or null.
+fn is_literal(e: &Expr) -> bool
+    ensures { IsTrue result → is_literal_leaf (expr_tree e.now) ≡ true }
 {
     match e {
-        Expr::Lit(n) => match n {
-            Lit::Num(_) => true,
-            Lit::Str(_) | Lit::Bool(_) | Lit::Null(_) => false,
-        },
+        Expr::Lit(_) => true,
         _ => false,
     }
 }
 
-/// Whether an expression is `undefined`, or `void` of a number.
+/// Whether an expression is `undefined`, or `void` of a literal.
 #[tactic(auto, using(swc_ast::proofs::Equations::forms))]
 fn is_always_void(ctx: &ExprCtx, e: &Expr) -> bool
     ensures { IsTrue result → tree_always_void (unresolved ctx.now) (expr_tree e.now) ≡ true }
 {
     match e {
         Expr::Unary(n) => match n.op {
-            UnaryOp::Void => is_number(&n.arg),
+            UnaryOp::Void => is_literal(&n.arg),
             _ => false,
         },
         Expr::Ident(_) => e.is_undefined(ctx),

@@ -26,8 +26,7 @@ use Rattle.branch_expressions.specs.Left.{IsLeft}
 use Rattle.branch_expressions.specs.declared.ignored.Left.{Left as LeftKind}
 use Rattle.branch_expressions.specs.declared.ignored.Left.TheVariants as left
 use Rattle.branch_expressions.proofs.Made.{pure_known}
-use Rattle.branch_loops.specs.Bodies.{IsNames, PartLeft, part_same, part_changed, is_heavy, truth_tree}
-use Rattle.branch_loops.proofs.Weights.{outweighs}
+use Rattle.branch_loops.specs.Bodies.{IsNames, PartLeft, part_same, part_changed, Outweighs, truth_tree}
 
 -- a `for` by the trees of its parts
 abbrev parts_tree : Span → Tree → Tree → Tree → Tree → Tree
@@ -145,7 +144,7 @@ module _ (mark : ℕ) (n m : ForStmt) where
     pub no_update : (u : Tree) (s : Stmt) → stmt_tree s ≡ for_tree m → 0 < weight (tree_or_absent expr_tree n.update) → m.update ≡ None → m.init ≡ n.init → m.test ≡ n.test → m.body ≡ n.body → Turns mark (for_tree n) u (Some s)
     no_update u s is some none i t b = turns_by u s is (for_no_update (n.span ∷ []) [] (m.span ∷ []) (option_init_tree expr_tree n.init) test (tree_or_absent expr_tree n.update) (stmt_tree n.body.value) (test_expression mark n.test false h) (no_weight n.update some) some is_pure is_false) (ap (option_init_tree expr_tree) i) (ap (tree_or_absent expr_tree) t) (ap (tree_or_absent expr_tree) none) (body_same b)
 
-    pub no_body : (u : Tree) (s b r : Stmt) → stmt_tree s ≡ for_tree m → IsNames (stmt_tree b) (stmt_tree r) → b ≡ n.body.value → is_heavy (stmt_tree n.body.value) ≡ true → m.body.value ≡ r → m.init ≡ n.init → m.test ≡ n.test → m.update ≡ n.update → Turns mark (for_tree n) u (Some s)
+    pub no_body : (u : Tree) (s b r : Stmt) → stmt_tree s ≡ for_tree m → IsNames (stmt_tree b) (stmt_tree r) → b ≡ n.body.value → Outweighs (stmt_tree n.body.value) → m.body.value ≡ r → m.init ≡ n.init → m.test ≡ n.test → m.update ≡ n.update → Turns mark (for_tree n) u (Some s)
     no_body u s b r is names at heavy body i t v =
         let k = subst (λ x. IsNames (stmt_tree x) (stmt_tree r)) at names in
-        turns_by u s is (for_no_body (n.span ∷ []) k.spans (m.span ∷ []) (option_init_tree expr_tree n.init) test (tree_or_absent expr_tree n.update) (stmt_tree n.body.value) (test_expression mark n.test false h) is_pure is_false k.declares ((outweighs n.body.value heavy).more k.spans k.names k.declares)) (ap (option_init_tree expr_tree) i) (ap (tree_or_absent expr_tree) t) (ap (tree_or_absent expr_tree) v) (ap stmt_tree body ∙ k.is)
+        turns_by u s is (for_no_body (n.span ∷ []) k.spans (m.span ∷ []) (option_init_tree expr_tree n.init) test (tree_or_absent expr_tree n.update) (stmt_tree n.body.value) (test_expression mark n.test false h) is_pure is_false k.declares (heavy.more k.spans k.names k.declares)) (ap (option_init_tree expr_tree) i) (ap (tree_or_absent expr_tree) t) (ap (tree_or_absent expr_tree) v) (ap stmt_tree body ∙ k.is)

@@ -6,13 +6,18 @@ use Rattle.swc_ast.specs.declared.statements.Stmt.{Stmt}
 use Rattle.swc_ast.specs.declared.statements.Stmt.TheVariants as in_stmt
 use Rattle.swc_ast.specs.declared.declarations.Decl.TheOpen as Open
 use Rattle.swc_ast.specs.declared.declarations.Decl.TheViews.{roll-Stmt, out-Stmt, roll-out-Stmt}
-use Rattle.swc_ast.specs.Parts.{list_trees}
+use Rattle.swc_ast.specs.declared.expressions.Expr.{Expr}
+use Rattle.swc_ast.specs.declared.statements.LabeledStmt.{LabeledStmt}
+use Rattle.swc_ast.specs.declared.statements.ReturnStmt.{ReturnStmt}
+use Rattle.swc_ast.specs.declared.statements.ThrowStmt.{ThrowStmt}
+use Rattle.swc_ast.specs.Parts.{list_trees, optional_trees, word_text}
 use Rattle.swc_ast.specs.Scope.{vars, vars_all, own_vars, holds_statements, has_name}
-use Rattle.swc_ast.specs.Tree.{Name, Label, Block, ExprStmt, If, While, DoWhile, For, Switch, Try, NumLit, Param, Declarator, Tree, node, Forest, ε, ◌⊳◌}
-use Rattle.swc_ast.specs.Views.{stmt_tree}
+use Rattle.swc_ast.specs.Tree as tree
+use Rattle.swc_ast.specs.Tree.{Text, Name, Label, Block, ExprStmt, If, While, DoWhile, For, Switch, Try, NumLit, Param, Declarator, Tree, node, Forest, ε, ◌⊳◌}
+use Rattle.swc_ast.specs.Views.{expr_tree, stmt_tree}
 use Rattle.swc_ast.specs.Weight.{own_weight, weight, weight_all}
 use Rattle.swc_ast.proofs.ApartStatements.{StmtForm, stmt_form, stmt_number, stmt_at}
-use Rattle.swc_ast.proofs.Equations.{stmt_tree-Block}
+use Rattle.swc_ast.proofs.Equations.{stmt_tree-Block, stmt_tree-Labeled, stmt_tree-Return, stmt_tree-Throw}
 use Rattle.swc_ast.proofs.Labels.{label}
 use Rattle.swc_ast.specs.SameLaws.{impossible}
 use Rattle.branch_rules.specs.Statements.{as_statement}
@@ -124,9 +129,59 @@ other_heavy (node (Switch ds) ss cs) n h = heavy _ (omega (arith, at_most (vars_
 other_heavy (node (Try o) ss cs) n h = heavy _ (omega (arith, try_weight o cs, at_most (vars_all cs), all_vars_weight cs))
 other_heavy (node _ ss cs) n h = impossible h
 
-pub outweighs : (s : Stmt) → is_heavy (stmt_tree s) ≡ true → Outweighs (stmt_tree s)
+outweighs : (s : Stmt) → is_heavy (stmt_tree s) ≡ true → Outweighs (stmt_tree s)
 outweighs s h = by (out-Stmt s) (roll-out-Stmt s)
   where
     by : (o : StmtForm) → roll-Stmt o ≡ s → Outweighs (stmt_tree s)
     by (Open.Block n) r = subst Outweighs (sym (ap stmt_tree (sym r ∙ in_stmt.rolls-Block n) ∙ stmt_tree-Block n)) (block_heavy (n.span ∷ []) n.stmts.items)
     by o r = other_heavy (stmt_tree s) (λ e. omega (arith, e, ap (λ x. stmt_form (label (stmt_tree x))) (sym r) ∙ stmt_at o)) h
+
+pub statement_outweighs : (s : Stmt) (b : Bool) → b ≡ is_heavy (stmt_tree s) → b ≡ true → Outweighs (stmt_tree s)
+statement_outweighs s b e h = outweighs s (sym e ∙ h)
+
+-- `throw`, `return` and labels
+
+throw_heavy : (ss : List Span) (t : Tree) → 0 < weight t → Outweighs (node tree.Throw ss (t ⊳ ε))
+unfolding own_weight
+throw_heavy ss t h = heavy _ (omega (arith, h))
+
+pub throw_outweighs : (s : Stmt) (n : ThrowStmt Expr) → s ≡ in_stmt.Throw n → 0 < weight (expr_tree n.arg.value) → Outweighs (stmt_tree s)
+throw_outweighs s n is h = subst Outweighs (sym (ap stmt_tree is ∙ stmt_tree-Throw n)) (throw_heavy (n.span ∷ []) (expr_tree n.arg.value) h)
+
+return_heavy : (ss : List Span) (ts : Forest) → 0 < weight_all ts → Outweighs (node tree.Return ss ts)
+unfolding own_weight
+return_heavy ss ts h = heavy _ (omega (arith, h))
+
+pub return_outweighs : (s : Stmt) (n : ReturnStmt Expr) → s ≡ in_stmt.Return n → 0 < weight_all (optional_trees expr_tree n.arg) → Outweighs (stmt_tree s)
+return_outweighs s n is h = subst Outweighs (sym (ap stmt_tree is ∙ stmt_tree-Return n)) (return_heavy (n.span ∷ []) (optional_trees expr_tree n.arg) h)
+
+-- a statement with `var` names in it weighs 2 by itself
+room_by_label : (t : Tree) → 1 ≤ stmt_form (label t) → names_weight (vars t) ≤ weight t + 1
+unfolding own_weight
+room_by_label (node Block ss cs) h = omega (arith, at_most (vars_all cs), all_vars_weight cs)
+room_by_label (node If ss cs) h = omega (arith, at_most (vars_all cs), all_vars_weight cs)
+room_by_label (node While ss cs) h = omega (arith, at_most (vars_all cs), all_vars_weight cs)
+room_by_label (node DoWhile ss cs) h = omega (arith, at_most (vars_all cs), all_vars_weight cs)
+room_by_label (node For ss cs) h = omega (arith, at_most (vars_all cs), all_vars_weight cs)
+room_by_label (node (Switch ds) ss cs) h = omega (arith, at_most (vars_all cs), all_vars_weight cs)
+room_by_label (node (Try o) ss cs) h = omega (arith, try_weight o cs, at_most (vars_all cs), all_vars_weight cs)
+room_by_label (node (tree.Labeled l) ss cs) h = omega (arith, at_most (vars_all cs), all_vars_weight cs)
+room_by_label (node (tree.VarDecl k) ss cs) h = omega (arith, at_most (vars_all cs), all_vars_weight cs)
+room_by_label (node ExprStmt ss cs) h = omega arith
+room_by_label (node tree.Empty ss cs) h = omega arith
+room_by_label (node tree.Throw ss cs) h = omega arith
+room_by_label (node tree.Return ss cs) h = omega arith
+room_by_label (node (tree.Break l) ss cs) h = omega arith
+room_by_label (node (tree.Continue l) ss cs) h = omega arith
+room_by_label (node (tree.FnDecl x) ss cs) h = omega arith
+room_by_label (node _ ss cs) h = absurd (omega (arith, h))
+
+room : (s : Stmt) → names_weight (vars (stmt_tree s)) ≤ weight (stmt_tree s) + 1
+room s = room_by_label (stmt_tree s) (subst (λ x. 1 ≤ stmt_form (label (stmt_tree x))) (roll-out-Stmt s) (subst (λ n. 1 ≤ n) (sym (stmt_at (out-Stmt s))) (numbered (out-Stmt s))))
+
+label_heavy : (l : Text) (ss : List Span) (s : Stmt) → Outweighs (node (tree.Labeled l) ss (stmt_tree s ⊳ ε))
+unfolding own_weight
+label_heavy l ss s = heavy _ (omega (arith, room s, ap names_weight (append-nil (vars (stmt_tree s)))))
+
+pub label_outweighs : (s : Stmt) (n : LabeledStmt Stmt) → s ≡ in_stmt.Labeled n → Outweighs (stmt_tree s)
+label_outweighs s n is = subst Outweighs (sym (ap stmt_tree is ∙ stmt_tree-Labeled n)) (label_heavy (word_text n.label) _ n.body.value)

@@ -14,8 +14,7 @@ use Rattle.branch_rules.specs.Removes.{statement}
 use Rattle.branch_rules.specs.Statements.{while_true, while_false, while_never}
 use Rattle.branch_rules.specs.Turns.{Turns, by_rule}
 use Rattle.branch_expressions.proofs.Made.{pure_known}
-use Rattle.branch_loops.specs.Bodies.{IsNames, is_heavy, truth_tree}
-use Rattle.branch_loops.proofs.Weights.{outweighs}
+use Rattle.branch_loops.specs.Bodies.{IsNames, Outweighs, truth_tree}
 
 pub while_is : (n : WhileStmt) → while_node (loop_trees n) ≡ node While (n.span ∷ []) (expr_tree n.test.value ⊳ stmt_tree n.body.value ⊳ ε)
 while_is n = ap while_node (loop_trees-is n)
@@ -30,10 +29,10 @@ module _ (mark : ℕ) (n : WhileStmt) where
       turns u s (by_rule [] (statement (while_true (n.span ∷ []) (record { lo = 0; hi = 0 } ∷ []) (m.span ∷ []) (expr_tree n.test.value) (stmt_tree n.body.value) (is_an_expression n.test.value) shut p.0 p.1))
       (is ∙ while_is m ∙ ap₂ (λ x y. node While (m.span ∷ []) (x ⊳ y ⊳ ε)) test (ap stmt_tree body)))
 
-  pub skipped_turns : (m : WhileStmt) (u : Tree) (s b r : Stmt) → stmt_tree s ≡ while_node (loop_trees m) → IsNames (stmt_tree b) (stmt_tree r) → b ≡ n.body.value → truth mark (expr_tree n.test.value) ≡ Some false → is_heavy (stmt_tree n.body.value) ≡ true → m.body.value ≡ r → m.test.value ≡ n.test.value → Turns mark (while_node (loop_trees n)) u (Some s)
+  pub skipped_turns : (m : WhileStmt) (u : Tree) (s b r : Stmt) → stmt_tree s ≡ while_node (loop_trees m) → IsNames (stmt_tree b) (stmt_tree r) → b ≡ n.body.value → truth mark (expr_tree n.test.value) ≡ Some false → Outweighs (stmt_tree n.body.value) → m.body.value ≡ r → m.test.value ≡ n.test.value → Turns mark (while_node (loop_trees n)) u (Some s)
   skipped_turns m u s b r is names at h heavy body test =
       let k = subst (λ x. IsNames (stmt_tree x) (stmt_tree r)) at names in
-      turns u s (by_rule [] (statement (while_false (n.span ∷ []) k.spans (m.span ∷ []) (expr_tree n.test.value) (stmt_tree n.body.value) (is_an_expression n.test.value) h k.declares ((outweighs n.body.value heavy).more k.spans k.names k.declares)))
+      turns u s (by_rule [] (statement (while_false (n.span ∷ []) k.spans (m.span ∷ []) (expr_tree n.test.value) (stmt_tree n.body.value) (is_an_expression n.test.value) h k.declares (heavy.more k.spans k.names k.declares)))
       (is ∙ while_is m ∙ ap₂ (λ x y. node While (m.span ∷ []) (x ⊳ y ⊳ ε)) (ap expr_tree test) (ap stmt_tree body ∙ k.is)))
 
   pub never_turns : (u : Tree) (s b : Stmt) → IsNames (stmt_tree b) (stmt_tree s) → b ≡ n.body.value → pure_truth mark (expr_tree n.test.value) ≡ Some false → Turns mark (while_node (loop_trees n)) u (Some s)

@@ -10,7 +10,7 @@ ghost use Rattle.branch_rules.specs.Removes.{Rests};
 ghost use Rattle.branch_rules.specs.Turns.{Turns};
 ghost use Rattle.branch_loops.specs.Bodies.{PartLeft};
 
-use crate::looks::{is_heavy, is_truth, weighs};
+use crate::looks::{is_truth, outweighs, weighs};
 use crate::nodes::{names_left, take_for, truth_literal};
 use branch_expressions::{Left, ignore};
 use std::alloc::{AllocError, Global};
@@ -121,7 +121,7 @@ fn fold_never(alloc: Global, n: &mut ForStmt) -> Result<Option<Stmt>, AllocError
         n.update = None;
         return Ok(Some(take_for(alloc, n)?));
     }
-    if is_heavy(&n.body) {
+    if outweighs(&n.body) {
         *n.body = names_left(alloc, &n.body)?;
         return Ok(Some(take_for(alloc, n)?));
     }

@@ -1,10 +1,11 @@
 //! What a look at the parts of a loop tells.
 ghost use Rattle.std.specs.Prelude.{◌<◌, ◌≡◌, false, IsTrue};
+ghost use Rattle.swc_ast.specs.Parts.{optional_trees};
 ghost use Rattle.swc_ast.specs.Views.{decl_tree, expr_tree, stmt_tree};
-ghost use Rattle.swc_ast.specs.Weight.{is_truth_or_absent, weight};
-ghost use Rattle.branch_loops.specs.Bodies.{is_heavy as tree_is_heavy};
+ghost use Rattle.swc_ast.specs.Weight.{is_truth_or_absent, weight, weight_all};
+ghost use Rattle.branch_loops.specs.Bodies.{is_heavy as tree_is_heavy, Outweighs};
 
-use swc_ast::{Decl, Expr, Lit, Stmt};
+use swc_ast::{Decl, Expr, Lit, ReturnStmt, Stmt};
 
 /// Whether an expression is `true` or `false`.
 #[tactic(auto, using(swc_ast::proofs::Equations::forms, crate::proofs::Apart::no_literal))]
@@ -41,9 +42,9 @@ fn is_heavy_decl(n: &Decl) -> bool
     }
 }
 
-/// Whether a statement is sure to weigh more than a declaration of its `var` names.
+/// Whether a statement is sure to weigh more than a declaration of its `var` names by itself.
 #[tactic(auto, using(swc_ast::proofs::Equations::forms))]
-pub(crate) fn is_heavy(s: &Stmt) -> bool
+fn is_heavy(s: &Stmt) -> bool
     ensures { result ≡ tree_is_heavy (stmt_tree s.now) }
 {
     match s {
@@ -62,5 +63,27 @@ pub(crate) fn is_heavy(s: &Stmt) -> bool
         | Stmt::Continue(_)
         | Stmt::Throw(_) => false,
         Stmt::Decl(n) => is_heavy_decl(n),
+    }
+}
+
+/// Whether what is returned is sure to weigh something.
+fn returns_weight(n: &ReturnStmt) -> bool
+    ensures { IsTrue result → 0 < weight_all (optional_trees expr_tree n.now.arg) }
+{
+    match &n.arg {
+        Some(e) => weighs(e),
+        None => false,
+    }
+}
+
+/// Whether a statement is sure to weigh more than a declaration of its `var` names.
+pub(crate) fn outweighs(s: &Stmt) -> bool
+    ensures { IsTrue result → Outweighs (stmt_tree s.now) }
+{
+    match s {
+        Stmt::Throw(n) => weighs(&n.arg),
+        Stmt::Return(n) => returns_weight(n),
+        Stmt::Labeled(_) => true,
+        _ => is_heavy(s),
     }
 }

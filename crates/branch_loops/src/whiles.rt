@@ -8,7 +8,7 @@ ghost use Rattle.swc_utils.specs.Sound.{known};
 ghost use Rattle.branch_rules.specs.Removes.{Rests};
 ghost use Rattle.branch_rules.specs.Turns.{Turns};
 
-use crate::looks::{is_heavy, is_truth};
+use crate::looks::{is_truth, outweighs};
 use crate::nodes::{names_left, take_while, truth_literal};
 use std::alloc::{AllocError, Global};
 use swc_ast::{Expr, Stmt, WhileStmt};
@@ -39,7 +39,7 @@ fn fold_skipped(alloc: Global, ctx: &ExprCtx, n: &mut WhileStmt) -> Result<Optio
     match truth_of(ctx, &n.test) {
         Value::Known(true) | Value::Unknown => Ok(None),
         Value::Known(false) => {
-            if !is_heavy(&n.body) {
+            if !outweighs(&n.body) {
                 return Ok(None);
             }
             *n.body = names_left(alloc, &n.body)?;

@@ -1,5 +1,5 @@
 -- What is left of an expression is put behind statements.
-use Rattle.std.proofs.Common.{◌≡◌, ℕ, true, false, List, [], ◌∷◌, length, Some, refl, sym, subst, ◌∙◌, arith, ◌<◌, ◌⊎◌, inl, inr}
+use Rattle.std.proofs.Common.{◌≡◌, ℕ, Bool, true, false, not, List, [], ◌∷◌, length, Some, refl, sym, subst, ◌∙◌, arith, ◌<◌, ◌⊎◌, inl, inr}
 use Rattle.swc_ast.specs.declared.Span.{Span}
 use Rattle.swc_ast.specs.declared.expressions.Expr.{Expr}
 use Rattle.swc_ast.specs.declared.statements.Stmt.{Stmt}
@@ -7,6 +7,7 @@ use Rattle.swc_ast.specs.Parts.{list_trees}
 use Rattle.swc_ast.specs.Scope.{joined}
 use Rattle.swc_ast.specs.Tree.{Block, Tree, node, Forest, ε, ◌⊳◌}
 use Rattle.swc_ast.specs.Views.{expr_tree, stmt_tree}
+use Rattle.swc_utils.specs.Pure.{pure}
 use Rattle.swc_utils.proofs.Chains.{joined_none}
 use Rattle.expr_steps.proofs.ExprTrees.{is_an_expression}
 use Rattle.branch_rules.specs.Ignored.{Ignores, stays}
@@ -14,11 +15,16 @@ use Rattle.branch_rules.specs.Statements.{as_statement, nothing_alone, left_alon
 use Rattle.branch_expressions.specs.Left.{IsLeft}
 use Rattle.branch_expressions.specs.declared.ignored.Left.{Left as LeftKind}
 use Rattle.branch_expressions.specs.declared.ignored.Left.TheVariants as left
+use Rattle.branch_expressions.proofs.Made.{goes_pure}
 use Rattle.branch_parts.specs.Behind.{alone_tree, LeftBehind, left_behind}
 
 -- nothing is left
 pub behind_nothing : (mark : ℕ) (t u : Tree) (before : Forest) (k : LeftKind) → k ≡ left.Nothing → IsLeft mark t u k → LeftBehind mark t before before
 behind_nothing mark t u before k is h = left_behind (nothing_alone t (subst (IsLeft mark t u) is h)) (sym (joined_none before))
+
+-- an expression that has no effect goes
+pub behind_idle : (mark : ℕ) (e : Expr) (b : Bool) (before : Forest) → b ≡ not (pure mark (expr_tree e)) → b ≡ false → LeftBehind mark (expr_tree e) before before
+behind_idle mark e b before h k = left_behind (nothing_alone (expr_tree e) (goes_pure mark e b h k)) (sym (joined_none before))
 
 -- the expression, as it was
 behind_same : (mark : ℕ) (t : Tree) (e r : Expr) (before after : Forest) (k : LeftKind) → k ≡ left.Same → IsLeft mark t (expr_tree e) k → expr_tree r ≡ expr_tree e → after ≡ joined before (alone_tree (expr_tree r) ⊳ ε) → LeftBehind mark t before after

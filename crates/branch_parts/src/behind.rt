@@ -13,7 +13,7 @@ use branch_expressions::{Left, ignore};
 use branch_vars::{declare_all_vars, declare_vars};
 use std::alloc::{AllocError, Global};
 use swc_ast::{Expr, ExprStmt, Span, Stmt};
-use swc_utils::ExprCtx;
+use swc_utils::{ExprCtx, ExprExt};
 
 /// What stands nowhere in the text.
 const NOWHERE: Span = Span { lo: 0, hi: 0 };
@@ -59,6 +59,21 @@ pub fn push_left(
             Ok(())
         }
     }
+}
+
+/// Adds what is left of an expression as `push_left` does; nothing of one that has no effect. Fails where memory is refused.
+pub fn push_effects(
+    alloc: Global,
+    ctx: &ExprCtx,
+    e: &mut Expr,
+    out: &mut Vec<Stmt>,
+) -> Result<(), AllocError>
+    ensures { OnOk result (LeftBehind (unresolved ctx.now) (expr_tree e.old) (list_trees stmt_tree out.old.items) (list_trees stmt_tree out.new.items)) }
+{
+    if !e.may_have_side_effects(ctx) {
+        return Ok(());
+    }
+    push_left(alloc, ctx, e, out)
 }
 
 /// Adds a declaration of the `var` names of a statement that goes, if it has any. Fails where memory is refused.

@@ -3,7 +3,7 @@ use Rattle.std.specs.Prelude.{ℕ, ◌<◌, ◌≡◌, Bool, true, false, List, 
 use Rattle.swc_ast.specs.declared.Span.{Span}
 use Rattle.swc_ast.specs.declared.UnaryOp.TheVariants.{Void}
 use Rattle.swc_ast.specs.declared.AssignOp.TheVariants.{Assign as Plain}
-use Rattle.swc_ast.specs.Tree.{Name, NumLit, Read, Assign, Unary, Cond, Seq, Tree, node, Forest, ε, ◌⊳◌}
+use Rattle.swc_ast.specs.Tree.{Name, NumLit, StrLit, BoolLit, NullLit, Read, Assign, Unary, Cond, Seq, Tree, node, Forest, ε, ◌⊳◌}
 use Rattle.swc_ast.specs.declared.expressions.Expr.{Expr}
 use Rattle.swc_ast.specs.Scope.{joined}
 use Rattle.swc_ast.specs.Views.{expr_tree}
@@ -16,10 +16,18 @@ use Rattle.expr_rules.specs.Defaults.{is_void}
 use Rattle.expr_rules.specs.Leaves.{guarded}
 use Rattle.branch_rules.specs.Ignored.{IgnoresAll}
 
--- `undefined` and `void 0`: no run of them leaves the core. `void x` with an `x` that holds nothing yet is no such tree,
+-- a number, a text, a truth value or null
+abbrev pub is_literal_leaf : Tree → Bool
+is_literal_leaf (node (NumLit z) ss ε) = true
+is_literal_leaf (node (StrLit t) ss ε) = true
+is_literal_leaf (node (BoolLit b) ss ε) = true
+is_literal_leaf (node NullLit ss ε) = true
+is_literal_leaf _ = false
+
+-- `undefined`, and `void` of a literal: no run of them leaves the core. `void x` with an `x` that holds nothing yet is no such tree,
 -- and may not stand for `undefined`.
 abbrev pub always_void : ℕ → Tree → Bool
-always_void mark (node (Unary Void) ss (node (NumLit z) rs ε ⊳ ε)) = true
+always_void mark (node (Unary Void) ss (a ⊳ ε)) = is_literal_leaf a
 always_void mark (node (Read x) ss ε) = is_undefined mark (node (Read x) ss ε)
 always_void mark _ = false
 

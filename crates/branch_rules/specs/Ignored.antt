@@ -5,13 +5,14 @@ use Rattle.swc_ast.specs.declared.UnaryOp.{UnaryOp}
 use Rattle.swc_ast.specs.declared.BinaryOp.{BinaryOp}
 use Rattle.swc_ast.specs.declared.BinaryOp.TheVariants.{LogicalOr, LogicalAnd, NullishCoalescing}
 use Rattle.swc_ast.specs.declared.AssignOp.TheVariants.{Assign as Plain}
-use Rattle.swc_ast.specs.Tree.{Text, Name, Key, ItemKind, Plain as PlainItem, Spread, Hole, Read, Template, Array, Object, KeyValue, Shorthand, Method, PlainKey, ComputedKey, Unary, Binary, Cond, Seq, Call, New, Assign, Tree, node, Forest, ε, ◌⊳◌}
+use Rattle.swc_ast.specs.Tree.{Text, Name, Key, Fn, ItemKind, Plain as PlainItem, Spread, Hole, Read, Template, Array, Object, KeyValue, Shorthand, Method, PlainKey, ComputedKey, Unary, Binary, Cond, Seq, Call, New, Assign, Tree, node, Forest, ε, ◌⊳◌}
 use Rattle.swc_ast.specs.Scope.{joined}
 use Rattle.swc_ast.specs.Meaning.{is_unresolved}
 use Rattle.swc_utils.specs.declared.answers.ValueType.{ValueType}
 use Rattle.swc_utils.specs.Effects.{has_record_spread}
 use Rattle.swc_utils.specs.Globals.{is_host_name}
 use Rattle.swc_utils.specs.Known.{truth}
+use Rattle.swc_utils.specs.Literals.{is_literal}
 use Rattle.swc_utils.specs.Pure.{pure, is_pure_callee, has_spread}
 use Rattle.swc_utils.specs.Types.{type_of}
 use Rattle.swc_static.specs.Drawn.{is_expression}
@@ -55,6 +56,11 @@ abbrev pub properties_parts : ℕ → Forest → Forest
 properties_parts mark ε = ε
 properties_parts mark (t ⊳ ts) = joined (property_parts mark t) (properties_parts mark ts)
 
+-- a function expression
+abbrev pub is_function_expression : Tree → Bool
+is_function_expression (node (Fn o) ss cs) = true
+is_function_expression _ = false
+
 -- expressions whose parts are run in order, and then nothing that may be noticed
 pub data Opens (mark : ℕ) : Tree → Forest → Type 0 where
   operand : (op : UnaryOp) (ss : List Span) (a : Tree) → Opens mark (node (Unary op) ss (a ⊳ ε)) (a ⊳ ε)
@@ -62,9 +68,9 @@ pub data Opens (mark : ℕ) : Tree → Forest → Type 0 where
   items : (ks : List ItemKind) (ss : List Span) (cs : Forest) → has_spread ks ≡ false → Opens mark (node (Array ks) ss cs) cs
   properties : (ss : List Span) (cs : Forest) → has_record_spread cs ≡ false → Opens mark (node Object ss cs) (properties_parts mark cs)
   texts : (qs : List (Text × Bool)) (ss : List Span) (cs : Forest) → Opens mark (node (Template qs) ss cs) cs
-  -- a call of a function that does nothing; `new` of one leaves the core
+  -- a call of a function that does nothing; `new` of a function expression leaves the core, and of an arrow throws
   arguments : (ss : List Span) (f : Tree) (cs : Forest) → is_pure_callee f ≡ true → Opens mark (node Call ss (f ⊳ cs)) cs
-  new_arguments : (ss : List Span) (f : Tree) (cs : Forest) → is_pure_callee f ≡ true → Opens mark (node New ss (f ⊳ cs)) cs
+  new_arguments : (ss : List Span) (f : Tree) (cs : Forest) → is_function_expression f ≡ true → is_pure_callee f ≡ true → Opens mark (node New ss (f ⊳ cs)) cs
 
 module _ (mark : ℕ) where
   mutual
@@ -112,8 +118,8 @@ module _ (mark : ℕ) where
       spread_stays : {c : Bool} (t : Tree) {ks ls : List ItemKind} {cs vs : Forest} → ItemsLeft c ks cs ls vs → ItemsLeft c (Spread ∷ ks) (t ⊳ cs) (Spread ∷ ls) (t ⊳ vs)
       hole_goes : {c : Bool} {ks ls : List ItemKind} {cs vs : Forest} → ItemsLeft c ks cs ls vs → ItemsLeft true (Hole ∷ ks) cs ls vs
 
-    -- the properties of an object: `key: value` of a pure value may go
+    -- the properties of an object: `key: value` of a literal goes, which is pure
     pub data PropertiesLeft : Bool → Forest → Forest → Type 0 where
       no_properties : PropertiesLeft false ε ε
-      property_goes : {c : Bool} (k : Key) (ss rs : List Span) (v : Tree) {cs vs : Forest} → pure mark v ≡ true → PropertiesLeft c cs vs → PropertiesLeft true (node KeyValue ss (node (PlainKey k) rs ε ⊳ v ⊳ ε) ⊳ cs) vs
+      property_goes : {c : Bool} (k : Key) (ss rs : List Span) (v : Tree) {cs vs : Forest} → is_literal v ≡ true → pure mark v ≡ true → PropertiesLeft c cs vs → PropertiesLeft true (node KeyValue ss (node (PlainKey k) rs ε ⊳ v ⊳ ε) ⊳ cs) vs
       property_stays : {c : Bool} (t : Tree) {cs vs : Forest} → PropertiesLeft c cs vs → PropertiesLeft c (t ⊳ cs) (t ⊳ vs)

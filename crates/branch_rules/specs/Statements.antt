@@ -1,7 +1,7 @@
 -- What a statement becomes, its children being walked already: some statements, in order. The spans of a new node are the caller's.
 use Rattle.std.specs.Prelude.{ℕ, ◌<◌, ◌≡◌, Bool, true, false, ◌&&◌, ◌||◌, List, Option, Some, None, bytes_eq}
 use Rattle.swc_ast.specs.declared.Span.{Span}
-use Rattle.swc_ast.specs.Tree.{Text, Name, BoolLit, ExprStmt, Empty, Throw, Return, Block, If, While, DoWhile, For, Absent, Labeled, Break, Continue, Switch, Try, VarDecl, FnDecl, Tree, node, Forest, ε, ◌⊳◌}
+use Rattle.swc_ast.specs.Tree.{Text, Name, Read, This, Arrow, BoolLit, ExprStmt, Empty, Throw, Return, Block, If, While, DoWhile, For, Absent, Labeled, Break, Continue, Switch, Try, VarDecl, FnDecl, Tree, node, Forest, ε, ◌⊳◌}
 use Rattle.swc_ast.specs.Scope.{joined}
 use Rattle.swc_ast.specs.Weight.{weight, is_truth_or_absent}
 use Rattle.swc_utils.specs.Known.{truth}
@@ -79,9 +79,39 @@ is_absent _ = false
 abbrev pub is_optional : Tree → Bool
 is_optional t = is_expression (label_of t) || is_absent t
 
+-- a name, `this` or an arrow: it does nothing, and stays as a statement
+abbrev pub is_word : Tree → Bool
+is_word (node (Read x) ss cs) = true
+is_word (node This ss cs) = true
+is_word (node Arrow ss cs) = true
+is_word _ = false
+
+-- a statement in which no other stands, or only those of its list
+abbrev pub is_flat : Tree → Bool
+is_flat (node Block ss cs) = true
+is_flat (node (Labeled l) ss cs) = true
+is_flat (node (Switch ds) ss cs) = true
+is_flat (node (VarDecl k) ss cs) = true
+is_flat (node (FnDecl x) ss cs) = true
+is_flat (node ExprStmt ss cs) = true
+is_flat _ = false
+
+-- the same of each of some statements
+abbrev pub all_flat : Forest → Bool
+all_flat ε = true
+all_flat (t ⊳ ts) = is_flat t && all_flat ts
+
+-- a statement in which others stand at most one deep
+abbrev pub is_shallow : Tree → Bool
+is_shallow (node If ss (t ⊳ arms)) = all_flat arms
+is_shallow (node While ss (t ⊳ b ⊳ ε)) = is_flat b
+is_shallow (node DoWhile ss (b ⊳ t ⊳ ε)) = is_flat b
+is_shallow (node For ss (i ⊳ t ⊳ u ⊳ b ⊳ ε)) = is_flat b
+is_shallow _ = true
+
 pub data StatementStep (mark : ℕ) : Tree → Forest → Type 0 where
-  -- an expression of which nothing is left, or another one
-  expression : (ss : List Span) (a : Tree) {es : Forest} → is_expression (label_of a) ≡ true → Alone mark true a es → StatementStep mark (node ExprStmt ss (a ⊳ ε)) es
+  -- an expression of which nothing is left, or another one; a name, `this` and an arrow stay
+  expression : (ss : List Span) (a : Tree) {es : Forest} → is_expression (label_of a) ≡ true → is_word a ≡ false → Alone mark true a es → StatementStep mark (node ExprStmt ss (a ⊳ ε)) es
   -- `if` with a test of known truth: what the test does, the `var` names of the arm that goes, and the other arm
   choose : {c : Bool} (ss : List Span) (t : Tree) (known : Bool) (arms kept gone : Forest) {es vs : Forest} → is_expression (label_of t) ≡ true → truth mark t ≡ Some known → Chooses known arms kept gone → all_plain arms ≡ true → all_give_nothing arms ≡ true → Alone mark c t es → VarsOf gone vs → StatementStep mark (node If ss (t ⊳ arms)) (joined es (joined vs kept))
   -- an empty `else`, and an empty branch without `else`
@@ -105,9 +135,9 @@ pub data StatementStep (mark : ℕ) : Tree → Forest → Type 0 where
   -- a label of an empty statement, or of a `break` to it
   label_empty : (l : Text) (ss rs : List Span) → StatementStep mark (node (Labeled l) ss (node Empty rs ε ⊳ ε)) ε
   label_left : (l m : Text) (ss rs : List Span) → bytes_eq l m ≡ true → StatementStep mark (node (Labeled l) ss (node (Break (Some m)) rs ε ⊳ ε)) ε
-  -- a block of no statement, or of a plain one
+  -- a block of no statement, or of a plain and shallow one
   block_empty : (ss : List Span) → StatementStep mark (node Block ss ε) ε
-  block_one : (ss : List Span) (t : Tree) → is_plain t ≡ true → gives_nothing t ≡ true → StatementStep mark (node Block ss (t ⊳ ε)) (t ⊳ ε)
+  block_one : (ss : List Span) (t : Tree) → is_plain t ≡ true → is_shallow t ≡ true → gives_nothing t ≡ true → StatementStep mark (node Block ss (t ⊳ ε)) (t ⊳ ε)
   -- `try` with an empty block: the final block with the handler's `var` names in it or in front of it, or these alone
   try_inside : (p : Option (Option Name)) (ss bs fs us : List Span) (h : Tree) (cs : Forest) {vs : Forest} → all_plain cs ≡ true → VarsOf (h ⊳ ε) vs → StatementStep mark (node (Try p) ss (node Block bs ε ⊳ h ⊳ node Block fs cs ⊳ ε)) (node Block us (joined vs cs) ⊳ ε)
   try_beside : (p : Option (Option Name)) (ss bs fs : List Span) (h : Tree) (cs : Forest) {vs : Forest} → VarsOf (h ⊳ ε) vs → StatementStep mark (node (Try p) ss (node Block bs ε ⊳ h ⊳ node Block fs cs ⊳ ε)) (joined vs (node Block fs cs ⊳ ε))

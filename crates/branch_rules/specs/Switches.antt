@@ -1,7 +1,7 @@
 -- What a `switch` becomes, its children being walked already. The spans of a new node are the caller's.
 use Rattle.std.specs.Prelude.{ℕ, ◌<◌, ◌≡◌, Bool, true, false, not, ◌&&◌, ◌||◌, if◌then◌else◌, List, [], ◌∷◌, ◌++◌, Some, None}
 use Rattle.swc_ast.specs.declared.Span.{Span}
-use Rattle.swc_ast.specs.Tree.{Break, FnDecl, CaseBody, Block, Switch, Tree, node, Forest, ε, ◌⊳◌}
+use Rattle.swc_ast.specs.Tree.{NumLit, StrLit, BoolLit, NullLit, Read, Break, FnDecl, CaseBody, Block, Switch, Tree, node, Forest, ε, ◌⊳◌}
 use Rattle.swc_ast.specs.Value.{Value}
 use Rattle.swc_ast.specs.Operators.{prim, strict_equal}
 use Rattle.swc_ast.specs.Scope.{joined, vars_all, declared}
@@ -87,10 +87,24 @@ abbrev pub nothing_runs : List Clause → Bool
 nothing_runs [] = true
 nothing_runs (k ∷ ks) = starts_with_break k.body && nothing_runs ks
 
+-- a literal or a name; of `undefined` and `NaN` the value is known
+abbrev pub is_fixed : Tree → Bool
+is_fixed (node (NumLit z) ss cs) = true
+is_fixed (node (StrLit t) ss cs) = true
+is_fixed (node (BoolLit b) ss cs) = true
+is_fixed (node NullLit ss cs) = true
+is_fixed (node (Read x) ss cs) = true
+is_fixed _ = false
+
+-- one of a known value
+pub record FixedValue (mark : ℕ) (t : Tree) (v : Value) : Type 0 where
+  pub fixed : is_fixed t ≡ true
+  pub known : value_of mark t ≡ Some v
+
 -- cases that a value passes: their tests are known and unequal; `default` is passed over
 pub data Passed (mark : ℕ) (v : Value) : List Clause → Type 0 where
   none_passed : Passed mark v []
-  unequal : (k : Clause) (w : Value) {ks : List Clause} → k.is_default ≡ false → pure mark k.test ≡ true → value_of mark k.test ≡ Some w → strict_equal (prim v) (prim w) ≡ Some false → Passed mark v ks → Passed mark v (k ∷ ks)
+  unequal : (k : Clause) (w : Value) {ks : List Clause} → k.is_default ≡ false → pure mark k.test ≡ true → FixedValue mark k.test w → strict_equal (prim v) (prim w) ≡ Some false → Passed mark v ks → Passed mark v (k ∷ ks)
   over_default : (k : Clause) {ks : List Clause} → k.is_default ≡ true → Passed mark v ks → Passed mark v (k ∷ ks)
 
 -- function declarations among some statements
@@ -119,10 +133,10 @@ pub data SwitchStep (mark : ℕ) : Tree → Forest → Type 0 where
   only_default : {c : Bool} (ss : List Span) (d : Tree) (fs : List Clause) (k : Clause) {es ts gs : Forest} → is_discriminant d ≡ true → have_tests (fs ++ k ∷ []) ≡ true → pure_tests mark (fs ++ k ∷ []) ≡ true → no_default fs ≡ true → all_empty fs ≡ true → k.is_default ≡ true → Alone mark c d es → Unbroken k.body ts gs → vars_all gs ≡ [] → declared ts ≡ declared k.body → unreached ts ≡ 0 → all_plain ts ≡ true → all_give_nothing ts ≡ true → SwitchStep mark (switch_tree ss d (fs ++ k ∷ [])) (joined es ts)
   only_default_apart : {c : Bool} (ss us : List Span) (d : Tree) (fs : List Clause) (k : Clause) {es ts gs : Forest} → is_discriminant d ≡ true → have_tests (fs ++ k ∷ []) ≡ true → pure_tests mark (fs ++ k ∷ []) ≡ true → no_default fs ≡ true → all_empty fs ≡ true → k.is_default ≡ true → Alone mark c d es → Unbroken k.body ts gs → vars_all gs ≡ [] → declared ts ≡ declared k.body → unreached ts ≡ 0 → SwitchStep mark (switch_tree ss d (fs ++ k ∷ [])) (joined es (node Block us ts ⊳ ε))
   -- a case is known to be selected
-  selected_case : (ss us : List Span) (d : Tree) (v w : Value) (fs : List Clause) (k : Clause) (ks : List Clause) {ts gs vs : Forest} → is_discriminant d ≡ true → have_tests (fs ++ k ∷ ks) ≡ true → pure mark d ≡ true → value_of mark d ≡ Some v → Passed mark v fs → k.is_default ≡ false → pure mark k.test ≡ true → value_of mark k.test ≡ Some w → strict_equal (prim v) (prim w) ≡ Some true → Unbroken (bodies_of (k ∷ ks)) ts gs → declared ts ≡ declared (bodies_of (fs ++ k ∷ ks)) → VarsOf (joined (bodies_of fs) gs) vs → unreached ts ≡ 0 → SwitchStep mark (switch_tree ss d (fs ++ k ∷ ks)) (node Block us (joined vs ts) ⊳ ε)
+  selected_case : (ss us : List Span) (d : Tree) (v w : Value) (fs : List Clause) (k : Clause) (ks : List Clause) {ts gs vs : Forest} → is_discriminant d ≡ true → have_tests (fs ++ k ∷ ks) ≡ true → pure mark d ≡ true → FixedValue mark d v → Passed mark v fs → k.is_default ≡ false → pure mark k.test ≡ true → FixedValue mark k.test w → strict_equal (prim v) (prim w) ≡ Some true → Unbroken (bodies_of (k ∷ ks)) ts gs → declared ts ≡ declared (bodies_of (fs ++ k ∷ ks)) → VarsOf (joined (bodies_of fs) gs) vs → unreached ts ≡ 0 → SwitchStep mark (switch_tree ss d (fs ++ k ∷ ks)) (node Block us (joined vs ts) ⊳ ε)
   -- `default` is known to be selected
-  selected_default : (ss us : List Span) (d : Tree) (v : Value) (fs : List Clause) (k : Clause) (ks : List Clause) {ts gs vs : Forest} → is_discriminant d ≡ true → have_tests (fs ++ k ∷ ks) ≡ true → pure mark d ≡ true → value_of mark d ≡ Some v → Passed mark v (fs ++ k ∷ ks) → no_default fs ≡ true → k.is_default ≡ true → Unbroken (bodies_of (k ∷ ks)) ts gs → declared ts ≡ declared (bodies_of (fs ++ k ∷ ks)) → VarsOf (joined (bodies_of fs) gs) vs → unreached ts ≡ 0 → SwitchStep mark (switch_tree ss d (fs ++ k ∷ ks)) (node Block us (joined vs ts) ⊳ ε)
+  selected_default : (ss us : List Span) (d : Tree) (v : Value) (fs : List Clause) (k : Clause) (ks : List Clause) {ts gs vs : Forest} → is_discriminant d ≡ true → have_tests (fs ++ k ∷ ks) ≡ true → pure mark d ≡ true → FixedValue mark d v → Passed mark v (fs ++ k ∷ ks) → no_default fs ≡ true → k.is_default ≡ true → Unbroken (bodies_of (k ∷ ks)) ts gs → declared ts ≡ declared (bodies_of (fs ++ k ∷ ks)) → VarsOf (joined (bodies_of fs) gs) vs → unreached ts ≡ 0 → SwitchStep mark (switch_tree ss d (fs ++ k ∷ ks)) (node Block us (joined vs ts) ⊳ ε)
   -- no case is selected
-  none_selected : (ss : List Span) (d : Tree) (v : Value) (ks : List Clause) {vs : Forest} → is_discriminant d ≡ true → have_tests ks ≡ true → pure mark d ≡ true → value_of mark d ≡ Some v → Passed mark v ks → no_default ks ≡ true → declared (bodies_of ks) ≡ [] → VarsOf (bodies_of ks) vs → SwitchStep mark (switch_tree ss d ks) vs
+  none_selected : (ss : List Span) (d : Tree) (v : Value) (ks : List Clause) {vs : Forest} → is_discriminant d ≡ true → have_tests ks ≡ true → pure mark d ≡ true → FixedValue mark d v → Passed mark v ks → no_default ks ≡ true → declared (bodies_of ks) ≡ [] → VarsOf (bodies_of ks) vs → SwitchStep mark (switch_tree ss d ks) vs
   -- leading cases are known to be passed; what is left is lighter
-  leading_go : (ss us rs : List Span) (d : Tree) (v : Value) (fs ks : List Clause) {vs : Forest} → is_discriminant d ≡ true → have_tests (fs ++ ks) ≡ true → value_of mark d ≡ Some v → Passed mark v fs → no_default fs ≡ true → declared (bodies_of ks) ≡ declared (bodies_of (fs ++ ks)) → VarsOf (bodies_of fs) vs → weight (as_statement rs (joined vs (switch_tree us d ks ⊳ ε))) < weight (switch_tree ss d (fs ++ ks)) → SwitchStep mark (switch_tree ss d (fs ++ ks)) (joined vs (switch_tree us d ks ⊳ ε))
+  leading_go : (ss us rs : List Span) (d : Tree) (v : Value) (fs ks : List Clause) {vs : Forest} → is_discriminant d ≡ true → have_tests (fs ++ ks) ≡ true → FixedValue mark d v → Passed mark v fs → no_default fs ≡ true → declared (bodies_of ks) ≡ declared (bodies_of (fs ++ ks)) → VarsOf (bodies_of fs) vs → weight (as_statement rs (joined vs (switch_tree us d ks ⊳ ε))) < weight (switch_tree ss d (fs ++ ks)) → SwitchStep mark (switch_tree ss d (fs ++ ks)) (joined vs (switch_tree us d ks ⊳ ε))

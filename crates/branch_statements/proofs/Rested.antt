@@ -1,11 +1,14 @@
 -- Statements that no rule takes.
-use Rattle.std.proofs.Common.{◌≡◌, ◌≤◌, ℕ, Bool, true, false, not, ◌&&◌, ◌||◌, List, [], ◌∷◌, length, Option, Some, None, refl, sym, ap, subst, ◌∙◌, arith}
+use Rattle.std.proofs.Common.{◌≡◌, ◌≤◌, ◌==◌, ℕ, Bool, true, false, not, ◌&&◌, ◌||◌, List, [], ◌∷◌, length, Option, Some, None, refl, sym, ap, subst, ◌∙◌, arith}
+use Rattle.std.proofs.lemmas.Bool.{true≢false}
 use Rattle.std.specs.declared.alloc.Global.{Global}
 use Rattle.std.specs.declared.boxed.Box.{Box}
 use Rattle.swc_ast.specs.declared.Span.{Span}
 use Rattle.swc_ast.specs.declared.VarDeclKind.TheVariants.{Var, Let, Const}
 use Rattle.swc_ast.specs.declared.declarations.Decl.TheOpen as Open
-use Rattle.swc_ast.specs.declared.declarations.Decl.TheViews.{out-Stmt, roll-out-Stmt}
+use Rattle.swc_ast.specs.declared.declarations.Decl.TheViews.{out-Stmt, roll-out-Stmt, roll-Expr, out-Expr, roll-out-Expr}
+use Rattle.swc_ast.specs.declared.expressions.Expr.{Expr}
+use Rattle.swc_ast.specs.declared.expressions.Expr.TheVariants as in_expr
 use Rattle.swc_ast.specs.declared.statements.Stmt.{Stmt}
 use Rattle.swc_ast.specs.declared.statements.TryStmt.{TryStmt}
 use Rattle.swc_ast.specs.Parts.{list_trees, optional_trees}
@@ -14,13 +17,14 @@ use Rattle.swc_ast.specs.Statements.{handler_param, handler_tree, option_block_t
 use Rattle.swc_ast.specs.Tree as tree
 use Rattle.swc_ast.specs.Tree.{Name, Label, Tree, node, Forest, ε, ◌⊳◌}
 use Rattle.swc_ast.specs.Valid.{is_listed, none_listed}
-use Rattle.swc_ast.specs.Views.{stmt_tree}
+use Rattle.swc_ast.specs.Views.{expr_tree, stmt_tree}
+use Rattle.swc_ast.proofs.ApartExpressions.{ExprForm, expr_form, expr_number, expr_at}
 use Rattle.swc_ast.proofs.ApartStatements.{StmtForm, stmt_form, stmt_number, stmt_at}
 use Rattle.swc_ast.proofs.Labels.{label}
 use Rattle.swc_utils.specs.Known.{truth}
 use Rattle.swc_utils.specs.Pure.{pure}
 use Rattle.branch_rules.specs.Removes.{Rests}
-use Rattle.branch_rules.specs.Statements.{all_plain, is_plain}
+use Rattle.branch_rules.specs.Statements.{all_plain, is_plain, is_word}
 use Rattle.branch_statements.specs.Arms.{has_empty_else}
 
 pub and_none : (x y : Bool) → y ≡ false → (x && y) ≡ false
@@ -61,8 +65,61 @@ pub text_rests : (s : Span) (a : Tree) → is_text a ≡ true → Rests (node tr
 text_rests s (node (tree.StrLit t) ss cs) h = refl
 text_rests s _ h = cc
 
-pub expression_rests : (mark : ℕ) (s : Span) (a : Tree) → pure mark a ≡ false → Rests (node tree.ExprStmt (s ∷ []) (a ⊳ ε))
-expression_rests mark s a h = not_word mark a h
+pub expression_rests : (s : Span) (a : Tree) → (is_number a || is_simple_word a) ≡ false → Rests (node tree.ExprStmt (s ∷ []) (a ⊳ ε))
+expression_rests s a h = h
+
+pub idle_literal : (mark : ℕ) (t : Tree) (b : Bool) → b ≡ not (pure mark t) → not b ≡ true → pure mark t ≡ true
+idle_literal mark t true h k = cc
+idle_literal mark t false h k = by (pure mark t) refl h
+  where
+    by : (p : Bool) → pure mark t ≡ p → false ≡ not p → pure mark t ≡ true
+    by true e g = e
+    by false e g = cc
+
+pub not_idle_literal : (mark : ℕ) (t : Tree) (b : Bool) → b ≡ not (pure mark t) → not b ≡ false → (is_number t || is_simple_word t) ≡ false
+not_idle_literal mark t false h k = cc
+not_idle_literal mark t true h k = not_word mark t (by (pure mark t) refl h)
+  where
+    by : (p : Bool) → pure mark t ≡ p → true ≡ not p → pure mark t ≡ false
+    by false e g = e
+    by true e g = cc
+
+-- what is no literal
+no_word : (t : Tree) (n : ℕ) → expr_form (label t) ≡ n → (n == 15) ≡ false → (is_number t || is_simple_word t) ≡ false
+no_word (node (tree.NumLit z) ss cs) n h k = absurd (true≢false (ap (λ m. m == 15) h ∙ k))
+no_word (node (tree.BoolLit b) ss cs) n h k = absurd (true≢false (ap (λ m. m == 15) h ∙ k))
+no_word (node tree.NullLit ss cs) n h k = absurd (true≢false (ap (λ m. m == 15) h ∙ k))
+no_word (node l ss cs) n h k = refl
+
+pub other_word : (e : Expr) → ((n : _) → e ≡ in_expr.Lit n → ⊥) → (is_number (expr_tree e) || is_simple_word (expr_tree e)) ≡ false
+other_word e none = by (out-Expr e) (roll-out-Expr e)
+  where
+    by : (p : ExprForm) → roll-Expr p ≡ e → (is_number (expr_tree e) || is_simple_word (expr_tree e)) ≡ false
+    by (Open.Lit n) r = absurd (none n (sym r ∙ in_expr.rolls-Lit n))
+    by p r = no_word (expr_tree e) (expr_number p) (ap (λ x. expr_form (label (expr_tree x))) (sym r) ∙ expr_at p) refl
+
+-- names, `this` and arrows
+
+pub word_rests : (s : Span) (a : Tree) → is_word a ≡ true → Rests (node tree.ExprStmt (s ∷ []) (a ⊳ ε))
+word_rests s (node (tree.Read x) ss cs) h = refl
+word_rests s (node tree.This ss cs) h = refl
+word_rests s (node tree.Arrow ss cs) h = refl
+word_rests s _ h = cc
+
+none_kept : (t : Tree) (n : ℕ) → expr_form (label t) ≡ n → (n == 14) ≡ false → (n == 1) ≡ false → (n == 17) ≡ false → false ≡ is_word t
+none_kept (node (tree.Read x) ss cs) n h i j k = absurd (true≢false (ap (λ m. m == 14) h ∙ i))
+none_kept (node tree.This ss cs) n h i j k = absurd (true≢false (ap (λ m. m == 1) h ∙ j))
+none_kept (node tree.Arrow ss cs) n h i j k = absurd (true≢false (ap (λ m. m == 17) h ∙ k))
+none_kept (node l ss cs) n h i j k = refl
+
+pub no_kept_word : (e : Expr) → ((n : _) → e ≡ in_expr.Ident n → ⊥) → ((n : _) → e ≡ in_expr.This n → ⊥) → ((n : _) → e ≡ in_expr.Arrow n → ⊥) → false ≡ is_word (expr_tree e)
+no_kept_word e no_name no_this no_arrow = by (out-Expr e) (roll-out-Expr e)
+  where
+    by : (p : ExprForm) → roll-Expr p ≡ e → false ≡ is_word (expr_tree e)
+    by (Open.Ident n) r = absurd (no_name n (sym r ∙ in_expr.rolls-Ident n))
+    by (Open.This n) r = absurd (no_this n (sym r ∙ in_expr.rolls-This n))
+    by (Open.Arrow n) r = absurd (no_arrow n (sym r ∙ in_expr.rolls-Arrow n))
+    by p r = none_kept (expr_tree e) (expr_number p) (ap (λ x. expr_form (label (expr_tree x))) (sym r) ∙ expr_at p) refl refl refl
 
 -- an arm that is not plain stands in a list
 

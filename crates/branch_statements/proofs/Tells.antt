@@ -1,5 +1,6 @@
 -- What looks at statements tell.
 use Rattle.std.proofs.Common.{◌≡◌, ℕ, Bool, true, false, ◌==◌, List, [], ◌∷◌, length, Option, Some, None, refl, sym, ap, subst, ◌∙◌, arith}
+use Rattle.std.proofs.lemmas.Bool.{false≢true}
 use Rattle.std.specs.Prelude.{slice_index_or, string_eq}
 use Rattle.std.specs.Cmp.{unsigned_Decides}
 use Rattle.std.specs.declared.alloc.Global.{Global}
@@ -12,19 +13,23 @@ use Rattle.swc_ast.specs.declared.statements.BreakStmt.{BreakStmt}
 use Rattle.swc_ast.specs.declared.statements.EmptyStmt.{EmptyStmt}
 use Rattle.swc_ast.specs.declared.statements.Stmt.{Stmt}
 use Rattle.swc_ast.specs.declared.statements.Stmt.TheVariants as in_stmt
+use Rattle.swc_ast.specs.declared.declarations.Decl.{Decl}
+use Rattle.swc_ast.specs.declared.statements.ForStmt.{ForStmt}
+use Rattle.swc_ast.specs.declared.statements.IfStmt.{IfStmt}
 use Rattle.swc_ast.specs.declared.statements.TryStmt.{TryStmt}
+use Rattle.swc_ast.specs.declared.statements.WhileStmt.{WhileStmt}
 use Rattle.swc_ast.specs.Parts.{list_trees, option_word_spans, option_word_text, optional_trees, word_text}
 use Rattle.swc_ast.specs.Redex.{is_empty}
-use Rattle.swc_ast.specs.Statements.{block_tree, handler_param, handler_spans, handler_tree, option_block_tree, try_tree}
+use Rattle.swc_ast.specs.Statements.{block_tree, do_while_node, handler_param, handler_spans, handler_tree, option_block_tree, try_tree, while_node}
 use Rattle.swc_ast.specs.Tree as tree
 use Rattle.swc_ast.specs.Tree.{Tree, node, Forest, ε, ◌⊳◌}
-use Rattle.swc_ast.specs.Views.{stmt_tree}
+use Rattle.swc_ast.specs.Views.{decl_tree, stmt_tree}
 use Rattle.swc_ast.proofs.ApartStatements.{StmtForm, stmt_form, stmt_number, stmt_at}
-use Rattle.swc_ast.proofs.Equations.{stmt_tree-Break, stmt_tree-Empty}
+use Rattle.swc_ast.proofs.Equations.{for_tree-is, if_tree-is, loop_trees-is, stmt_tree-Break, stmt_tree-Decl, stmt_tree-DoWhile, stmt_tree-Empty, stmt_tree-For, stmt_tree-If, stmt_tree-While}
 use Rattle.swc_ast.proofs.Labels.{label}
-use Rattle.branch_rules.specs.Statements.{is_plain}
-use Rattle.branch_statements.specs.Arms.{EmptyElse, EmptyStatement, LoneEmpty, empty, empty_else, lone_empty}
-use Rattle.branch_statements.specs.Shapes.{Idles, IsBare, OnePlain, bare, idle, leaves, one_plain}
+use Rattle.branch_rules.specs.Statements.{all_flat, is_flat, is_plain, is_shallow}
+use Rattle.branch_statements.specs.Arms.{EmptyElse, EmptyStatement, LoneEmpty, arms, empty, empty_else, lone_empty}
+use Rattle.branch_statements.specs.Shapes.{Idles, IsBare, OneShallow, bare, idle, leaves, one_shallow}
 
 -- counts
 
@@ -42,10 +47,37 @@ pub nothing : (xs : List Stmt) → length xs ≡ 0 → list_trees stmt_tree xs �
 nothing [] h = refl
 nothing (x ∷ xs) h = absurd (omega (arith, h))
 
-pub one_at : (xs : List Stmt) (x : Stmt) (b : Bool) → length xs ≡ 1 → x ≡ slice_index_or xs 0 x → b ≡ is_plain (stmt_tree x) → b ≡ true → OnePlain (list_trees stmt_tree xs)
-one_at [] x b n at e h = absurd (omega (arith, n))
-one_at (y ∷ []) x b n at e h = one_plain (stmt_tree y) (sym (ap (λ z. is_plain (stmt_tree z)) at) ∙ sym e ∙ h)
-one_at (y ∷ z ∷ ys) x b n at e h = absurd (omega (arith, n))
+pub one_at : (xs : List Stmt) (x : Stmt) → length xs ≡ 1 → x ≡ slice_index_or xs 0 x → is_plain (stmt_tree x) ≡ true → is_shallow (stmt_tree x) ≡ true → OneShallow (list_trees stmt_tree xs)
+one_at [] x n at h k = absurd (omega (arith, n))
+one_at (y ∷ []) x n at h k = one_shallow (stmt_tree y) (sym (ap (λ z. is_plain (stmt_tree z)) at) ∙ h) (sym (ap (λ z. is_shallow (stmt_tree z)) at) ∙ k)
+one_at (y ∷ z ∷ ys) x n at h k = absurd (omega (arith, n))
+
+-- what stands in conditions and loops
+
+pub if_shallow : (s : Stmt) (n : IfStmt) (b : Bool) → s ≡ in_stmt.If n → b ≡ all_flat (arms n) → b ≡ is_shallow (stmt_tree s)
+if_shallow s n b is h = h ∙ sym (ap is_shallow (ap stmt_tree is ∙ stmt_tree-If n ∙ if_tree-is n))
+
+at_body : (x y : Stmt) (b : Bool) → x ≡ y → b ≡ is_flat (stmt_tree x) → b ≡ is_flat (stmt_tree y)
+at_body x y b at h = h ∙ ap (λ z. is_flat (stmt_tree z)) at
+
+pub while_shallow : (s : Stmt) (n : WhileStmt) (x : Stmt) (b : Bool) → s ≡ in_stmt.While n → x ≡ n.body.value → b ≡ is_flat (stmt_tree x) → b ≡ is_shallow (stmt_tree s)
+while_shallow s n x b is at h = at_body x n.body.value b at h ∙ sym (ap is_shallow (ap stmt_tree is ∙ stmt_tree-While n ∙ ap while_node (loop_trees-is n)))
+
+pub do_shallow : (s : Stmt) (n : WhileStmt) (x : Stmt) (b : Bool) → s ≡ in_stmt.DoWhile n → x ≡ n.body.value → b ≡ is_flat (stmt_tree x) → b ≡ is_shallow (stmt_tree s)
+do_shallow s n x b is at h = at_body x n.body.value b at h ∙ sym (ap is_shallow (ap stmt_tree is ∙ stmt_tree-DoWhile n ∙ ap do_while_node (loop_trees-is n)))
+
+pub for_shallow : (s : Stmt) (n : ForStmt) (x : Stmt) (b : Bool) → s ≡ in_stmt.For n → x ≡ n.body.value → b ≡ is_flat (stmt_tree x) → b ≡ is_shallow (stmt_tree s)
+for_shallow s n x b is at h = at_body x n.body.value b at h ∙ sym (ap is_shallow (ap stmt_tree is ∙ stmt_tree-For n ∙ for_tree-is n))
+
+pub decl_shallow : (s : Stmt) (n : Decl) (b : Bool) → s ≡ in_stmt.Decl n → b ≡ is_flat (decl_tree n) → b ≡ true → b ≡ is_shallow (stmt_tree s)
+decl_shallow s n b is h k = k ∙ sym (ap is_shallow (ap stmt_tree is ∙ stmt_tree-Decl n) ∙ flat_shallow (decl_tree n) (sym h ∙ k))
+  where
+    flat_shallow : (t : Tree) → is_flat t ≡ true → is_shallow t ≡ true
+    flat_shallow (node tree.If ss cs) e = absurd (false≢true e)
+    flat_shallow (node tree.While ss cs) e = absurd (false≢true e)
+    flat_shallow (node tree.DoWhile ss cs) e = absurd (false≢true e)
+    flat_shallow (node tree.For ss cs) e = absurd (false≢true e)
+    flat_shallow t e = refl
 
 -- empty statements
 

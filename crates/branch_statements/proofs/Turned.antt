@@ -26,7 +26,7 @@ use Rattle.expr_steps.proofs.ExprTrees.{is_an_expression}
 use Rattle.branch_rules.specs.Ignored.{Ignores, goes}
 use Rattle.branch_rules.specs.Removes.{statement}
 use Rattle.branch_rules.specs.Statements as rule
-use Rattle.branch_rules.specs.Statements.{Alone, Chooses, StatementStep, all_give_nothing, all_plain, as_statement, gives_nothing, is_plain, left_alone, nothing_alone, else_arm, no_arm, only_arm, then_arm}
+use Rattle.branch_rules.specs.Statements.{Alone, Chooses, StatementStep, all_give_nothing, all_plain, as_statement, gives_nothing, is_plain, left_alone, nothing_alone, else_arm, no_arm, only_arm, then_arm, is_word}
 use Rattle.branch_rules.specs.Vars.{none_declared}
 use Rattle.branch_rules.specs.Turns.{Turns, by_rule}
 use Rattle.branch_expressions.specs.Left.{IsLeft}
@@ -36,7 +36,7 @@ use Rattle.branch_parts.proofs.GivesNothing.{stmt_gives_nothing}
 use Rattle.branch_parts.specs.Behind.{LeftBehind, VarsBehind, left_behind, vars_behind}
 use Rattle.branch_statements.specs.Arms.{ArmsBehind, EmptyElse, LoneEmpty, arms, empty_else, lone_empty}
 use Rattle.branch_statements.proofs.Tells.{nothing}
-use Rattle.branch_statements.specs.Shapes.{Idles, IsBare, OnePlain, bare, idle, leaves, one_plain}
+use Rattle.branch_statements.specs.Shapes.{Idles, IsBare, OneShallow, bare, idle, leaves, one_shallow}
 
 -- a rule of statements
 turned : {mark : ℕ} {t : Tree} (u : Tree) (rs : List Span) {us : Forest} (s : Stmt) → StatementStep mark t us → stmt_tree s ≡ as_statement rs us → Turns mark t u (Some s)
@@ -44,14 +44,14 @@ turned u rs s h is = by_rule rs (statement h) is
 
 -- expression statements
 
-pub pure_turns : (mark : ℕ) (s : Span) (e : Expr) (u : Tree) (r : Stmt) → pure mark (expr_tree e) ≡ true → stmt_tree r ≡ node tree.Empty (s ∷ []) ε → Turns mark (node tree.ExprStmt (s ∷ []) (expr_tree e ⊳ ε)) u (Some r)
-pure_turns mark s e u r h is = turned u (s ∷ []) r (rule.expression (s ∷ []) (expr_tree e) (is_an_expression e) (nothing_alone (expr_tree e) (goes (expr_tree e) (is_an_expression e) h))) is
+pub pure_turns : (mark : ℕ) (s : Span) (e : Expr) (u : Tree) (r : Stmt) → is_word (expr_tree e) ≡ false → pure mark (expr_tree e) ≡ true → stmt_tree r ≡ node tree.Empty (s ∷ []) ε → Turns mark (node tree.ExprStmt (s ∷ []) (expr_tree e ⊳ ε)) u (Some r)
+pure_turns mark s e u r w h is = turned u (s ∷ []) r (rule.expression (s ∷ []) (expr_tree e) (is_an_expression e) w (nothing_alone (expr_tree e) (goes (expr_tree e) (is_an_expression e) h))) is
 
-pub nothing_turns : (mark : ℕ) (s : Span) (e : Expr) (u : Tree) (r : Stmt) → Ignores mark true (expr_tree e) None → stmt_tree r ≡ node tree.Empty (s ∷ []) ε → Turns mark (node tree.ExprStmt (s ∷ []) (expr_tree e ⊳ ε)) u (Some r)
-nothing_turns mark s e u r h is = turned u (s ∷ []) r (rule.expression (s ∷ []) (expr_tree e) (is_an_expression e) (nothing_alone (expr_tree e) h)) is
+pub nothing_turns : (mark : ℕ) (s : Span) (e : Expr) (u : Tree) (r : Stmt) → is_word (expr_tree e) ≡ false → Ignores mark true (expr_tree e) None → stmt_tree r ≡ node tree.Empty (s ∷ []) ε → Turns mark (node tree.ExprStmt (s ∷ []) (expr_tree e ⊳ ε)) u (Some r)
+nothing_turns mark s e u r w h is = turned u (s ∷ []) r (rule.expression (s ∷ []) (expr_tree e) (is_an_expression e) w (nothing_alone (expr_tree e) h)) is
 
-pub left_turns : (mark : ℕ) (s : Span) (e v : Expr) (u : Tree) (r : Stmt) → Ignores mark true (expr_tree e) (Some (expr_tree v)) → stmt_tree r ≡ node tree.ExprStmt (s ∷ []) (expr_tree v ⊳ ε) → Turns mark (node tree.ExprStmt (s ∷ []) (expr_tree e ⊳ ε)) u (Some r)
-left_turns mark s e v u r h is = turned u [] r (rule.expression (s ∷ []) (expr_tree e) (is_an_expression e) (left_alone (s ∷ []) (expr_tree e) (expr_tree v) (is_an_expression v) h)) is
+pub left_turns : (mark : ℕ) (s : Span) (e v : Expr) (u : Tree) (r : Stmt) → is_word (expr_tree e) ≡ false → Ignores mark true (expr_tree e) (Some (expr_tree v)) → stmt_tree r ≡ node tree.ExprStmt (s ∷ []) (expr_tree v ⊳ ε) → Turns mark (node tree.ExprStmt (s ∷ []) (expr_tree e ⊳ ε)) u (Some r)
+left_turns mark s e v u r w h is = turned u [] r (rule.expression (s ∷ []) (expr_tree e) (is_an_expression e) w (left_alone (s ∷ []) (expr_tree e) (expr_tree v) (is_an_expression v) h)) is
 
 module _ (mark : ℕ) (s : Span) (x v : Expr) (k : LeftKind) (e : Expr) (at : x ≡ e) where
   left_at : (l : LeftKind) → k ≡ l → IsLeft mark (expr_tree x) (expr_tree v) k → IsLeft mark (expr_tree e) (expr_tree v) l
@@ -60,11 +60,11 @@ module _ (mark : ℕ) (s : Span) (x v : Expr) (k : LeftKind) (e : Expr) (at : x 
   pub same_left : k ≡ left.Same → IsLeft mark (expr_tree x) (expr_tree v) k → node tree.ExprStmt (s ∷ []) (expr_tree v ⊳ ε) ≡ node tree.ExprStmt (s ∷ []) (expr_tree e ⊳ ε)
   same_left is h = ap (λ t. node tree.ExprStmt (s ∷ []) (t ⊳ ε)) (left_at left.Same is h)
 
-  pub nothing_left : (u : Tree) (r : Stmt) → k ≡ left.Nothing → IsLeft mark (expr_tree x) (expr_tree v) k → stmt_tree r ≡ node tree.Empty (s ∷ []) ε → Turns mark (node tree.ExprStmt (s ∷ []) (expr_tree e ⊳ ε)) u (Some r)
-  nothing_left u r is h to = nothing_turns mark s e u r (left_at left.Nothing is h) to
+  pub nothing_left : (u : Tree) (r : Stmt) → is_word (expr_tree e) ≡ false → k ≡ left.Nothing → IsLeft mark (expr_tree x) (expr_tree v) k → stmt_tree r ≡ node tree.Empty (s ∷ []) ε → Turns mark (node tree.ExprStmt (s ∷ []) (expr_tree e ⊳ ε)) u (Some r)
+  nothing_left u r w is h to = nothing_turns mark s e u r w (left_at left.Nothing is h) to
 
-  pub changed_left : (u : Tree) (r : Stmt) (w : Expr) → k ≡ left.Changed → IsLeft mark (expr_tree x) (expr_tree v) k → expr_tree w ≡ expr_tree v → stmt_tree r ≡ node tree.ExprStmt (s ∷ []) (expr_tree w ⊳ ε) → Turns mark (node tree.ExprStmt (s ∷ []) (expr_tree e ⊳ ε)) u (Some r)
-  changed_left u r w is h same to = left_turns mark s e v u r (left_at left.Changed is h) (to ∙ ap (λ t. node tree.ExprStmt (s ∷ []) (t ⊳ ε)) same)
+  pub changed_left : (u : Tree) (r : Stmt) (w : Expr) → is_word (expr_tree e) ≡ false → k ≡ left.Changed → IsLeft mark (expr_tree x) (expr_tree v) k → expr_tree w ≡ expr_tree v → stmt_tree r ≡ node tree.ExprStmt (s ∷ []) (expr_tree w ⊳ ε) → Turns mark (node tree.ExprStmt (s ∷ []) (expr_tree e ⊳ ε)) u (Some r)
+  changed_left u r w n is h same to = left_turns mark s e v u r n (left_at left.Changed is h) (to ∙ ap (λ t. node tree.ExprStmt (s ∷ []) (t ⊳ ε)) same)
 
 -- conditions
 
@@ -120,14 +120,14 @@ without_else mark n m u at test cons alt h plain =
 pub empty_turns : (mark : ℕ) (s : Span) (xs : List Stmt) (u : Tree) (r : Stmt) → length xs ≡ 0 → stmt_tree r ≡ node tree.Empty (s ∷ []) ε → Turns mark (node tree.Block (s ∷ []) (list_trees stmt_tree xs)) u (Some r)
 empty_turns mark s xs u r h is = subst (λ ts. Turns mark (node tree.Block (s ∷ []) ts) u (Some r)) (sym (nothing xs h)) (turned u (s ∷ []) r (rule.block_empty (s ∷ [])) is)
 
-one_turns : (mark : ℕ) (s : Span) (ts : Forest) (u : Tree) (r : Stmt) → OnePlain ts → ts ≡ stmt_tree r ⊳ ε → Turns mark (node tree.Block (s ∷ []) ts) u (Some r)
-one_turns mark s ts u r (one_plain t h) is = turned u [] r (rule.block_one (s ∷ []) t h (subst (λ x. gives_nothing x ≡ true) same (stmt_gives_nothing r))) same
+one_turns : (mark : ℕ) (s : Span) (ts : Forest) (u : Tree) (r : Stmt) → OneShallow ts → ts ≡ stmt_tree r ⊳ ε → Turns mark (node tree.Block (s ∷ []) ts) u (Some r)
+one_turns mark s ts u r (one_shallow t h k) is = turned u [] r (rule.block_one (s ∷ []) t h k (subst (λ x. gives_nothing x ≡ true) same (stmt_gives_nothing r))) same
   where
     same : stmt_tree r ≡ t
     same = cc
 
 -- a block whose one statement is moved out
-pub popped_turns : (mark : ℕ) (s : Span) (xs ys : List Stmt) (u : Tree) (o : Option Stmt) → OnePlain (list_trees stmt_tree xs) → (0 < length xs → IsSome o) → xs ≡ ys ++ option_to_list o → Turns mark (node tree.Block (s ∷ []) (list_trees stmt_tree xs)) u o
+pub popped_turns : (mark : ℕ) (s : Span) (xs ys : List Stmt) (u : Tree) (o : Option Stmt) → OneShallow (list_trees stmt_tree xs) → (0 < length xs → IsSome o) → xs ≡ ys ++ option_to_list o → Turns mark (node tree.Block (s ∷ []) (list_trees stmt_tree xs)) u o
 popped_turns mark s [] ys u o h some is = elim h [ ]
 popped_turns mark s (x ∷ z ∷ xs) ys u o h some is = elim h [ ]
 popped_turns mark s (x ∷ []) ys u None h some is = let e : false ≡ true = some (omega arith) in cc

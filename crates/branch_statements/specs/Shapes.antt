@@ -2,11 +2,11 @@
 use Rattle.std.specs.Prelude.{◌≡◌, true, List, Some, None, bytes_eq}
 use Rattle.swc_ast.specs.declared.Span.{Span}
 use Rattle.swc_ast.specs.Tree.{Text, Absent, Block, Break, Empty, Try, Tree, node, Forest, ε, ◌⊳◌}
-use Rattle.branch_rules.specs.Statements.{is_plain}
+use Rattle.branch_rules.specs.Statements.{is_plain, is_shallow}
 
--- one plain statement
-pub data OnePlain : Forest → Type 0 where
-  one_plain : (t : Tree) → is_plain t ≡ true → OnePlain (t ⊳ ε)
+-- one plain and shallow statement
+pub data OneShallow : Forest → Type 0 where
+  one_shallow : (t : Tree) → is_plain t ≡ true → is_shallow t ≡ true → OneShallow (t ⊳ ε)
 
 -- an empty statement, or a `break` to a label
 pub data Idles (l : Text) : Tree → Type 0 where

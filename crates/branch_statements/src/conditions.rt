@@ -10,7 +10,7 @@ ghost use Rattle.branch_rules.specs.Statements.{all_plain};
 ghost use Rattle.branch_rules.specs.Turns.{Turns};
 ghost use Rattle.branch_statements.specs.Arms.{ArmsBehind, EmptyElse, EmptyStatement, LoneEmpty, arms, has_empty_else};
 
-use branch_parts::{as_one, is_plain, push_left, push_vars, take_expr, take_stmt};
+use branch_parts::{as_one, is_plain, push_effects, push_left, push_vars, take_expr, take_stmt};
 use std::alloc::{AllocError, Global};
 use swc_ast::{IfStmt, Stmt};
 use swc_utils::{ExprCtx, ExprExt, Value};
@@ -63,7 +63,7 @@ fn push_arms(
     Ok(())
 }
 
-/// A condition with a test of known truth: what is left of the test, the `var` names of the arm that goes, and the other
+/// A condition with a test of known truth: what is left of the test where it has an effect, the `var` names of the arm that goes, and the other
 /// arm.
 fn choose(alloc: Global, ctx: &ExprCtx, known: bool, n: &mut IfStmt) -> Result<Stmt, AllocError>
     requires truth { truth (unresolved ctx.now) (expr_tree n.old.test.value) ≡ Some known }
@@ -71,7 +71,7 @@ fn choose(alloc: Global, ctx: &ExprCtx, known: bool, n: &mut IfStmt) -> Result<S
     ensures { IfOk result (λ s. Turns (unresolved ctx.now) (if_tree n.old) (if_tree n.new) (Some s)) }
 {
     let mut out = Vec::new(alloc);
-    push_left(alloc, ctx, &mut n.test, &mut out)?;
+    push_effects(alloc, ctx, &mut n.test, &mut out)?;
     push_arms(alloc, known, n, &mut out)?;
     Ok(as_one(n.span, out))
 }

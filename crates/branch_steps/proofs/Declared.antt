@@ -93,7 +93,7 @@ plain_one : (t : Tree) (us : Forest) → ((x : Name) → has_name x (vars t) ≡
 plain_one t us h b d = record { vars = h; before = b; behind = d }
 
 pub statement_vars : {mark : ℕ} {t : Tree} {us : Forest} → StatementStep mark t us → SameVars t us
-statement_vars (expression ss a e h) = plain_one _ _ (λ x. ap (has_name x) (sym (alone_vars h))) refl (alone_declares h)
+statement_vars (expression ss a e w h) = plain_one _ _ (λ x. ap (has_name x) (sym (alone_vars h))) refl (alone_declares h)
 statement_vars (choose ss t known arms kept gone {es} {vs} e k r p g h v) =
     plain_one _ _ (λ x. has_cons x t arms ∙ or_last _ _ (no_vars x t (expression_vars t e)) ∙ sym (none_first x es (joined vs kept) (alone_vars h) ∙ has_joined x vs kept ∙ ap (λ z. z || has_name x (vars_all kept)) (vars_kept gone v x) ∙ arm_vars x r)) refl
     (none_declared es (joined vs kept) (alone_declares h) (none_declared vs kept (vars_declare v) (arm_declares r p)))
@@ -113,7 +113,7 @@ statement_vars (do_true ss ks ls ms us b t q p e) = plain_one _ _ (λ x. two x b
 statement_vars (label_empty l ss rs) = plain_one _ _ (λ x. refl) refl refl
 statement_vars (label_left l m ss rs e) = plain_one _ _ (λ x. refl) refl refl
 statement_vars (block_empty ss) = plain_one _ _ (λ x. refl) refl refl
-statement_vars (block_one ss t p g) = plain_one _ _ (λ x. refl) refl (one_declares t (plain_declares t p))
+statement_vars (block_one ss t p q g) = plain_one _ _ (λ x. refl) refl (one_declares t (plain_declares t p))
 statement_vars (try_inside p ss bs fs us h cs {vs} a q) = plain_one _ _ (λ x. try_vars x p ss bs h (node Block fs cs) ∙ ap (λ z. z || has_name x (vars_all cs)) (sym (vars_kept (h ⊳ ε) q x ∙ one x h)) ∙ sym (one x (node Block us (joined vs cs)) ∙ has_joined x vs cs)) refl refl
 statement_vars (try_beside p ss bs fs h cs {vs} q) = plain_one _ _ (λ x. try_vars x p ss bs h (node Block fs cs) ∙ sym (front_vars x h (node Block fs cs) q)) refl (none_declared vs (node Block fs cs ⊳ ε) (vars_declare q) refl)
 statement_vars (try_alone p ss bs fs h q) = plain_one _ _ (λ x. try_vars x p ss bs h (node Absent fs ε) ∙ sym (vars_kept (h ⊳ ε) q x ∙ one x h ∙ sym (or_nothing (has_name x (vars h))))) refl (vars_declare q)

@@ -2,7 +2,8 @@
 use Rattle.std.proofs.Common.{◌≡◌, ℕ, Bool, true, false, ◌&&◌, if◌then◌else◌, List, [], ◌∷◌, ◌++◌, refl, sym, ap, subst, ◌∙◌, codes, bytes_eq}
 use Rattle.std.proofs.lemmas.Bool.{false≢true}
 use Rattle.swc_ast.specs.declared.UnaryOp.TheVariants.{Void}
-use Rattle.swc_ast.specs.Tree.{NumLit, Read, Unary, Tree, node, ε, ◌⊳◌}
+use Rattle.swc_ast.specs.declared.Span.{Span}
+use Rattle.swc_ast.specs.Tree.{NumLit, StrLit, BoolLit, NullLit, Read, Unary, Tree, node, ε, ◌⊳◌}
 use Rattle.swc_ast.specs.Value.{Value, Undefined, NaN, State, Done, Run, and_then, Context, Meaning, Reads}
 use Rattle.swc_ast.specs.Operators.{truthy, unary_value}
 use Rattle.swc_ast.specs.Meaning.{◌>>=◌, gives, leaves, ask, is_unresolved, read, read_bound, in_turn, run_all, act, eval, evals}
@@ -18,7 +19,7 @@ use Rattle.swc_utils.proofs.Pure.{pure_is_still}
 use Rattle.swc_utils.proofs.Refines.{refines_same, refines_then, refines_drop, refines_trans}
 use Rattle.expr_steps.proofs.Refines.{refines_path}
 use Rattle.expr_steps.proofs.Runs.{bind_chain, bind_same}
-use Rattle.branch_rules.specs.Expressions.{always_void, ExpressionStep, front, itself, same_arms, in_guard}
+use Rattle.branch_rules.specs.Expressions.{always_void, is_literal_leaf, ExpressionStep, front, itself, same_arms, in_guard}
 use Rattle.branch_steps.proofs.Ignore.{ignores_all_run}
 use Rattle.branch_steps.proofs.Itself.{itself_exact}
 
@@ -39,10 +40,19 @@ undefined_read host m true false b g s h = absurd (false≢true h)
 undefined_read host m false a b g s h = absurd (false≢true h)
 
 module _ (mark n d : ℕ) where
+  -- `void` of a literal
+  literal_void : (a : Tree) (ss : List Span) (c : Context) → is_literal_leaf a ≡ true → (s : State) → eval mark n (call_at (eval mark n) d) (node (Unary Void) ss (a ⊳ ε)) c s ≡ Done Undefined s
+  unfolding eval act evals unary_value and_then
+  literal_void (node (NumLit z) rs ε) ss c h s = refl
+  literal_void (node (StrLit t) rs ε) ss c h s = refl
+  literal_void (node (BoolLit b) rs ε) ss c h s = refl
+  literal_void (node NullLit rs ε) ss c h s = refl
+  literal_void _ ss c h s = absurd (false≢true h)
+
   -- what is always undefined
   void_gives : (u : Tree) (c : Context) → always_void mark u ≡ true → (s : State) → eval mark n (call_at (eval mark n) d) u c s ≡ Done Undefined s
-  unfolding eval act evals unary_value read and_then
-  void_gives (node (Unary Void) ss (node (NumLit z) rs ε ⊳ ε)) c h s = refl
+  unfolding eval act evals read
+  void_gives (node (Unary Void) ss (a ⊳ ε)) c h s = literal_void a ss c h s
   void_gives (node (Read x) ss ε) c h s = undefined_read (ask (Reads x.text)) (read_bound x (c.env x)) (is_unresolved mark x) (bytes_eq x.text (codes "undefined")) _ _ s h
   void_gives _ c h s = absurd (false≢true h)
 

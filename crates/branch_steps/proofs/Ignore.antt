@@ -118,7 +118,7 @@ module _ (mark n d : ℕ) where
   parts_run (properties ss cs e) c = object_run mark n d ss cs c
   parts_run (texts qs ss cs) c = texts_idle qs ss cs c
   parts_run (arguments ss f cs e) c = callee_idle f cs ss c e
-  parts_run (new_arguments ss f cs e) c = new_idle f cs ss c e
+  parts_run (new_arguments ss f cs x e) c = new_idle f cs ss c e
 
   mutual
     unfolding eval act evals run_all
@@ -158,7 +158,7 @@ module _ (mark n d : ℕ) where
 
     properties_run : {k : Bool} {cs vs : Forest} → PropertiesLeft mark k cs vs → (fs gs : Fields) (c : Context) → Refines (drop (object_fields (evals mark n (call_at (eval mark n) d) cs) fs c)) (drop (object_fields (evals mark n (call_at (eval mark n) d) vs) gs c))
     properties_run no_properties fs gs c = fields_ended fs gs c
-    properties_run (property_goes k ss rs v {cs} {vs} e r) fs gs c = field_gone (does (node KeyValue ss (node (PlainKey k) rs ε ⊳ v ⊳ ε))) (evals mark n (call_at (eval mark n) d) cs) fs c (pure_is_still mark n d (node KeyValue ss (node (PlainKey k) rs ε ⊳ v ⊳ ε)) (property_pure mark k ss rs v e) c) (λ ps. properties_run r ps gs c)
+    properties_run (property_goes k ss rs v {cs} {vs} l e r) fs gs c = field_gone (does (node KeyValue ss (node (PlainKey k) rs ε ⊳ v ⊳ ε))) (evals mark n (call_at (eval mark n) d) cs) fs c (pure_is_still mark n d (node KeyValue ss (node (PlainKey k) rs ε ⊳ v ⊳ ε)) (property_pure mark k ss rs v e) c) (λ ps. properties_run r ps gs c)
     properties_run (property_stays t {cs} {vs} r) fs gs c = field_stayed (does t) (evals mark n (call_at (eval mark n) d) cs) (evals mark n (call_at (eval mark n) d) vs) fs gs c (λ ps qs. properties_run r ps qs c)
 
 -- what is left of expressions stands for them

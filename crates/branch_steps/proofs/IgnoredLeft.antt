@@ -125,7 +125,7 @@ module _ {V : Type 0} where
   parts_valid {mark} (properties ss cs e) v = record { by = λ i. properties_valid mark cs ((good_below v).by i) }
   parts_valid (texts qs ss cs) v = good_below v
   parts_valid (arguments ss f cs e) v = tail (good_below v)
-  parts_valid (new_arguments ss f cs e) v = tail (good_below v)
+  parts_valid (new_arguments ss f cs x e) v = tail (good_below v)
 
 -- lists, of which the second lacks names that may be made anew
 data Lessens (V : Type 0) : Forest → Forest → Type 0 where
@@ -245,7 +245,7 @@ module _ {V F : Type 0} where
   parts_left {mark} (properties ss cs e) {rest} h r = tree_opened Object ss cs refl (properties_opened mark cs rest (good_below h) r)
   parts_left (texts qs ss cs) h r = tree_opened (Template qs) ss cs refl r
   parts_left (arguments ss f cs e) h r = tree_opened Call ss (f ⊳ cs) refl (tree_goes f r)
-  parts_left (new_arguments ss f cs e) h r = tree_opened New ss (f ⊳ cs) refl (tree_goes f r)
+  parts_left (new_arguments ss f cs x e) h r = tree_opened New ss (f ⊳ cs) refl (tree_goes f r)
 
   -- the arm that is run
   arm_left : (known : Bool) (a b : Tree) {rest us vs : Forest} → AllGood V (a ⊳ b ⊳ ε) → ((xs : Forest) → Good V (if known then a else b) → Remains V F xs us → Remains V F ((if known then a else b) ⊳ xs) vs) → Remains V F rest us → Remains V F (a ⊳ b ⊳ rest) vs
@@ -289,5 +289,5 @@ module _ {V F : Type 0} where
 
       object_left : {k : Bool} {cs vs : Forest} → PropertiesLeft mark k cs vs → {rest us : Forest} → Remains V F rest us → Remains V F (joined cs rest) (joined vs us)
       object_left no_properties r = r
-      object_left (property_goes k ss rs v e i) r = tree_goes _ (object_left i r)
+      object_left (property_goes k ss rs v l e i) r = tree_goes _ (object_left i r)
       object_left (property_stays t i) r = tree_stays t (object_left i r)

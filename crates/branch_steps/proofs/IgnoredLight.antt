@@ -89,7 +89,7 @@ opens_light (items ks ss cs e) = omega arith
 opens_light {mark} (properties ss cs e) = omega (arith, properties_light mark cs)
 opens_light (texts qs ss cs) = omega arith
 opens_light (arguments ss f cs e) = omega arith
-opens_light (new_arguments ss f cs e) = omega arith
+opens_light (new_arguments ss f cs x e) = omega arith
 
 arm_light : (b : Bool) (m n k : ℕ) (a c : Tree) → k ≤ weight (if b then a else c) → k ≤ weight a + weight c
 arm_light true m n k a c h = omega (arith, h)
@@ -134,5 +134,5 @@ module _ {mark : ℕ} where
 
     properties_lighter : {k : Bool} {cs vs : Forest} → PropertiesLeft mark k cs vs → one_if k + weight_all vs ≤ weight_all cs
     properties_lighter no_properties = omega arith
-    properties_lighter (property_goes k ss rs v e i) = omega (arith, properties_lighter i)
+    properties_lighter (property_goes k ss rs v l e i) = omega (arith, properties_lighter i)
     properties_lighter (property_stays t i) = omega (arith, properties_lighter i)

@@ -46,8 +46,8 @@ no_list l h i = absurd (false≢true h)
 
 statement_opens : {mark : ℕ} {t : Tree} {us : Forest} (rs : List Span) → StatementStep mark t us → is_list (label_of t) ≡ true → Opened t (as_statement rs us)
 statement_opens rs (block_empty ss) e = hollow ss rs
-statement_opens rs (block_one ss t p g) e = unwrap ss t p
-statement_opens rs (expression ss a q h) e = absurd (false≢true e)
+statement_opens rs (block_one ss t p q g) e = unwrap ss t p
+statement_opens rs (expression ss a q w h) e = absurd (false≢true e)
 statement_opens rs (choose ss t known arms kept gone q k r p g h v) e = absurd (false≢true e)
 statement_opens rs (else_goes ss xs us t a q p) e = absurd (false≢true e)
 statement_opens rs (branch_goes ss xs t q h) e = absurd (false≢true e)

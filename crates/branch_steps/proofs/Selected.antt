@@ -164,13 +164,13 @@ module _ (mark n d : ℕ) where
 
   pub passed_front : {v : Value} {fs : List Clause} → Passed mark v fs → (ks : List Clause) (others : List Meaning) (c : Context) → Refines (selected (cases (fs ++ ks)) others v c) (selected (cases ks) others v c)
   passed_front none_passed ks others c = refines_same _
-  passed_front {v} (unequal k w {ks = fs} h p e q r) ks others c = refines_trans (unequal_step k.is_default k.test v w (runs k.body) (cases (fs ++ ks)) others c h p e q) (passed_front r ks others c)
+  passed_front {v} (unequal k w {ks = fs} h p e q r) ks others c = refines_trans (unequal_step k.is_default k.test v w (runs k.body) (cases (fs ++ ks)) others c h p e.known q) (passed_front r ks others c)
   passed_front {v} (over_default k {ks = fs} h r) ks others c = refines_trans (refines_path (over_step k.is_default k.test v (runs k.body) (cases (fs ++ ks)) others c h)) (passed_front r ks others c)
 
   pub passed_all : {v : Value} {fs : List Clause} → Passed mark v fs → (others : List Meaning) (c : Context) → Refines (selected (cases fs) others v c) (gives others)
   unfolding selected
   passed_all none_passed others c = refines_same _
-  passed_all {v} (unequal k w {ks = fs} h p e q r) others c = refines_trans (unequal_step k.is_default k.test v w (runs k.body) (cases fs) others c h p e q) (passed_all r others c)
+  passed_all {v} (unequal k w {ks = fs} h p e q r) others c = refines_trans (unequal_step k.is_default k.test v w (runs k.body) (cases fs) others c h p e.known q) (passed_all r others c)
   passed_all {v} (over_default k {ks = fs} h r) others c = refines_trans (refines_path (over_step k.is_default k.test v (runs k.body) (cases fs) others c h)) (passed_all r others c)
 
   pub equal_step : (b : Bool) (t : Tree) (v w : Value) (m : Meaning) (rest : List Case) (others : List Meaning) (c : Context) → b ≡ false → pure mark t ≡ true → value_of mark t ≡ Some w → strict_equal (prim v) (prim w) ≡ Some true → Refines (selected ((case_test b (does t), m) ∷ rest) others v c) (gives (m ∷ bodies_from rest))

@@ -141,7 +141,7 @@ module _ (mark n d : ℕ) where
 
   pub statement_run : {t : Tree} {us : Forest} → StatementStep mark t us → (c : Context) → Refines (drop (does t c)) (runs us c)
   unfolding run_all eval evals act at_label and_then
-  statement_run (expression ss a e h) c = refines_trans (refines_path (made_dropped (does a c) (λ v. Undefined))) (alone_run mark n d h c)
+  statement_run (expression ss a e w h) c = refines_trans (refines_path (made_dropped (does a c) (λ v. Undefined))) (alone_run mark n d h c)
   statement_run (choose ss t known arms kept gone e k r a g h v) c = refines_trans (choose_run mark n d ss t r k c) (behind_alone mark n d (joined _ kept) (runs kept) c h (behind_vars mark n d kept (runs kept) c v (refines_same _)))
   statement_run (else_goes ss rs us t a e p) c = refines_same _
   statement_run (branch_goes ss rs t e h) c = refines_trans (no_branch mark n d t c) (alone_run mark n d h c)
@@ -159,7 +159,7 @@ module _ (mark n d : ℕ) where
   statement_run (label_empty l ss rs) c = refines_same _
   statement_run (label_left l m ss rs e) c = refines_path (ap drop (fun_ext (λ s. labeled_left l m s e)))
   statement_run (block_empty ss) c = refines_path (ap drop (empty_block ss c))
-  statement_run (block_one ss t p g) c = refines_path (ap drop (open_block mark n (call_at (eval mark n) d) ss (t ⊳ ε) (one_declares t (plain_declares t p)) c) ∙ made_dropped (does t c) (λ v. Undefined))
+  statement_run (block_one ss t p q g) c = refines_path (ap drop (open_block mark n (call_at (eval mark n) d) ss (t ⊳ ε) (one_declares t (plain_declares t p)) c) ∙ made_dropped (does t c) (λ v. Undefined))
   statement_run (try_inside p ss bs fs us h cs a q) c = refines_trans (try_run p ss bs h (node Block fs cs) c) (refines_path (ap drop (block_inside fs us cs c q)))
   statement_run (try_beside p ss bs fs h cs q) c = refines_trans (try_run p ss bs h (node Block fs cs) c) (refines_path (vars_first (node Block fs cs ⊳ ε) c q))
   statement_run (try_alone p ss bs fs h q) c = refines_trans (try_run p ss bs h (node Absent fs ε) c) (refines_path (sym (vars_run mark n (call_at (eval mark n) d) q c)))

@@ -149,7 +149,7 @@ module _ {N : Type 0} {P : Name → Type 0} {mark : ℕ} (n : N) (rs : List Span
   no_branch_step ss qs t {es} e h = branch_step _ _ n (form.choose rs es ε ε (node Empty qs ε ⊳ ε) form.no_arm (expression_vars t e) refl (tested_of _ (test_valid ss t (node Empty qs ε ⊳ ε)) h) (no_vars refl))
 
   pub statement_owes : {t : Tree} {us : Forest} → StatementStep mark t us → Step N P t (as_statement rs us)
-  statement_owes (expression ss a e h) = expression_step n ss rs a e h
+  statement_owes (expression ss a e w h) = expression_step n ss rs a e h
   statement_owes (choose ss t known arms kept gone {es} {vs} e k r p g h v) = branch_step _ _ n (form.choose rs es vs kept gone (arms_of r) (expression_vars t e) (kept_plain r p) (tested_of _ (test_valid ss t arms) h) (hoists_of gone v))
   statement_owes (else_goes ss xs us t a e p) = respanned us refl (loop_step _ _ n (loop.else_gone {ss = ss} refl (empty_weighs xs)))
   statement_owes (branch_goes ss xs t {es} e h) = subst (λ z. Step N P (node If ss (t ⊳ node Empty xs ε ⊳ ε)) (as_statement rs z)) (joined_none es) (no_branch_step ss xs t e h)
@@ -167,7 +167,7 @@ module _ {N : Type 0} {P : Name → Type 0} {mark : ℕ} (n : N) (rs : List Span
   statement_owes (label_empty l ss xs) = loop_step _ _ n (loop.label_gone refl)
   statement_owes (label_left l m ss xs e) = loop_step _ _ n (loop.label_gone refl)
   statement_owes (block_empty ss) = branch_step _ _ n (form.hollow)
-  statement_owes (block_one ss t p g) = branch_step _ _ n (form.unwrap p)
+  statement_owes (block_one ss t p q g) = branch_step _ _ n (form.unwrap p)
   statement_owes (try_inside p ss bs fs us h cs {vs} a q) = loop_step _ _ n (loop.try_inside us vs refl a (hoists_of (h ⊳ ε) q))
   statement_owes (try_beside p ss bs fs h cs {vs} q) = loop_step _ _ n (loop.try_final rs vs refl refl (hoists_of (h ⊳ ε) q))
   statement_owes (try_alone p ss bs fs h {vs} q) = loop_step _ _ n (loop.try_gone rs vs refl refl (hoists_of (h ⊳ ε) q))

@@ -91,7 +91,7 @@ module _ {mark : ℕ} (rs : List Span) where
 
   statement_same : {t : Tree} {us : Forest} → StatementStep mark t us → Same mark t (as_statement rs us)
   unfolding eval act evals
-  statement_same {t} {us} (expression ss a e h) = let s = expression ss a e h in plainly t us refl refl refl (alone_stands h) (statement_vars s) (statement_becomes s)
+  statement_same {t} {us} (expression ss a e w h) = let s = expression ss a e w h in plainly t us refl refl refl (alone_stands h) (statement_vars s) (statement_becomes s)
   statement_same {t} {us} (choose ss a known arms kept gone {es} {vs} e k r p g h v) = let s = choose ss a known arms kept gone e k r p g h v in plainly t us g refl refl (statements_joined es (joined vs kept) (alone_stands h) (statements_joined vs kept (vars_stand v) (arms_stand r g))) (statement_vars s) (statement_becomes s)
   statement_same {t} {us} (else_goes ss xs ys a b e p) = record { exact = record { by = λ n d c. refines_same _ }; fits = statement_fits rs t us refl refl (statement_vars {mark = mark} (else_goes ss xs ys a b e p)); no_item = refl; no_param = refl; still_no_param = refl }
   statement_same {t} {us} (branch_goes ss xs a e h) = let s = branch_goes ss xs a e h in plainly t us refl refl refl (alone_stands h) (statement_vars s) (statement_becomes s)
@@ -109,7 +109,7 @@ module _ {mark : ℕ} (rs : List Span) where
   statement_same {t} {us} (label_empty l ss xs) = plainly t us refl refl refl refl (statement_vars {mark = mark} (label_empty l ss xs)) (statement_becomes (label_empty l ss xs))
   statement_same {t} {us} (label_left l m ss xs e) = plainly t us refl refl refl refl (statement_vars {mark = mark} (label_left l m ss xs e)) (statement_becomes (label_left l m ss xs e))
   statement_same {t} {us} (block_empty ss) = plainly t us refl refl refl refl (statement_vars {mark = mark} (block_empty ss)) (statement_becomes (block_empty ss))
-  statement_same {t} {us} (block_one ss a p g) = plainly t us refl refl refl (and_from (gives_nothing a) true g refl) (statement_vars {mark = mark} (block_one ss a p g)) (statement_becomes (block_one ss a p g))
+  statement_same {t} {us} (block_one ss a p q g) = plainly t us refl refl refl (and_from (gives_nothing a) true g refl) (statement_vars {mark = mark} (block_one ss a p q g)) (statement_becomes (block_one ss a p q g))
   statement_same (try_inside p ss bs fs ys h cs a q) = tried p ss bs h (node Block fs cs) refl (try_inside p ss bs fs ys h cs a q) refl
   statement_same (try_beside p ss bs fs h cs {vs} q) = tried p ss bs h (node Block fs cs) refl (try_beside p ss bs fs h cs q) (statements_joined vs (node Block fs cs ⊳ ε) (vars_stand q) refl)
   statement_same (try_alone p ss bs fs h q) = tried p ss bs h (node Absent fs ε) refl (try_alone p ss bs fs h q) (vars_stand q)

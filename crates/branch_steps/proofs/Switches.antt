@@ -201,14 +201,14 @@ module _ (mark n d : ℕ) where
       (left_alone c a q (λ v. refines_trans (refines_path (ap (λ (ps : List Declared). scope_of ps (λ x s. at_break (inner mark n d ks v x s)) c) e ∙ scope_nothing (λ x s. at_break (inner mark n d ks v x s)) c)) (idle_inner ks v c p r)))
   switch_run (only_default ss t fs k {es} {ts} h g p i j w a u x q z l y) c = default_run ss [] t fs k c h g p i j w a u q ts (refines_path (open_run [] ts c (all_declare ts l)))
   switch_run (only_default_apart ss us t fs k {es} {ts} h g p i j w a u x q z) c = default_run ss us t fs k c h g p i j w a u q (node Block us ts ⊳ ε) (refines_same _)
-  switch_run (selected_case ss us t v w fs k ks h g p e r i j l m u q o z) c = selected_run ss us t v (fs ++ k ∷ ks) (k ∷ ks) c (no_case_given t h) (tests_no_case (fs ++ k ∷ ks) g) p e (λ x. refines_trans (passed_front mark n d r (k ∷ ks) _ x) (equal_step mark n d k.is_default k.test v w (runs k.body) (cases mark n d ks) _ x i j l m)) u q o
-  switch_run (selected_default ss us t v fs k ks h g p e r i j u q o z) c = selected_run ss us t v (fs ++ k ∷ ks) (k ∷ ks) c (no_case_given t h) (tests_no_case (fs ++ k ∷ ks) g) p e (λ x. refines_trans (passed_all mark n d r _ x) (refines_path (ap (λ (bs : List Meaning). gives bs) (default_at mark n d fs k ks i j)))) u q o
+  switch_run (selected_case ss us t v w fs k ks h g p e r i j l m u q o z) c = selected_run ss us t v (fs ++ k ∷ ks) (k ∷ ks) c (no_case_given t h) (tests_no_case (fs ++ k ∷ ks) g) p e.known (λ x. refines_trans (passed_front mark n d r (k ∷ ks) _ x) (equal_step mark n d k.is_default k.test v w (runs k.body) (cases mark n d ks) _ x i j l.known m)) u q o
+  switch_run (selected_default ss us t v fs k ks h g p e r i j u q o z) c = selected_run ss us t v (fs ++ k ∷ ks) (k ∷ ks) c (no_case_given t h) (tests_no_case (fs ++ k ∷ ks) g) p e.known (λ x. refines_trans (passed_all mark n d r _ x) (refines_path (ap (λ (bs : List Meaning). gives bs) (default_at mark n d fs k ks i j)))) u q o
   switch_run (none_selected ss t v ks h g p e r i f q) c =
       refines_trans (refines_path (ap drop (switch_runs mark n d ss t ks c (no_case_given t h) (tests_no_case ks g))))
-      (known_run t v c (λ x. whole ks x c) p e (known_left c q (refines_trans (refines_path (ap (λ (ps : List Declared). scope_of ps (λ x s. at_break (inner mark n d ks v x s)) c) f ∙ scope_nothing (λ x s. at_break (inner mark n d ks v x s)) c)) (none_inner ks v c r i))))
+      (known_run t v c (λ x. whole ks x c) p e.known (known_left c q (refines_trans (refines_path (ap (λ (ps : List Declared). scope_of ps (λ x s. at_break (inner mark n d ks v x s)) c) f ∙ scope_nothing (λ x s. at_break (inner mark n d ks v x s)) c)) (none_inner ks v c r i))))
   switch_run (leading_go ss us rs t v fs ks {vs} h g e r i q o z) c =
       refines_trans (dropped_same (refines_trans (refines_path (switch_runs mark n d ss t (fs ++ ks) c (no_case_given t h) (tests_no_case (fs ++ ks) g)))
-      (refines_trans (refines_where (value_holds mark n (call_at (eval mark n) d) t v c e) (λ x p. refines_trans (refines_path (ap (λ y. whole (fs ++ ks) y c) p)) (refines_trans (leading_inner fs ks v c r i q) (refines_path (ap (λ y. whole ks y c) (sym p))))))
+      (refines_trans (refines_where (value_holds mark n (call_at (eval mark n) d) t v c e.known) (λ x p. refines_trans (refines_path (ap (λ y. whole (fs ++ ks) y c) p)) (refines_trans (leading_inner fs ks v c r i q) (refines_path (ap (λ y. whole ks y c) (sym p))))))
       (refines_path (sym (switch_runs mark n d us t ks c (no_case_given t h) (tests_no_case ks (tests_behind fs ks g))))))))
       (refines_path (vars_first mark n d (switch_tree us t ks ⊳ ε) c o))
 

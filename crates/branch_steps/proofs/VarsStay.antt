@@ -70,8 +70,8 @@ source_below l h = absurd (false≢true h)
 
 statement_below : {mark : ℕ} {t : Tree} {us : Forest} → StatementStep mark t us → is_top (label_of t) ≡ false
 statement_below (block_empty ss) = refl
-statement_below (block_one ss t p g) = refl
-statement_below (expression ss a q h) = refl
+statement_below (block_one ss t p q g) = refl
+statement_below (expression ss a q w h) = refl
 statement_below (choose ss t known arms kept gone q k r p g h v) = refl
 statement_below (else_goes ss xs us t a q p) = refl
 statement_below (branch_goes ss xs t q h) = refl

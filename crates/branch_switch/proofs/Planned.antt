@@ -6,8 +6,8 @@ use Rattle.std.proofs.lemmas.List.{map-append, take_all, take_more}
 use Rattle.swc_ast.specs.declared.statements.SwitchCase.{SwitchCase}
 use Rattle.swc_ast.specs.Tree.{Tree}
 use Rattle.swc_ast.specs.Value.{Value}
-use Rattle.expr_rules.specs.Values.{value_of}
-use Rattle.branch_rules.specs.Switches.{Clause, no_default, Passed}
+use Rattle.branch_rules.specs.Statements.{all_plain}
+use Rattle.branch_rules.specs.Switches.{Clause, FixedValue, no_default, Passed}
 use Rattle.branch_switch.specs.Clauses.{clause, clauses, plain_bodies}
 use Rattle.branch_switch.specs.Kept.{bodies_fit}
 use Rattle.branch_switch.specs.Plans.{IsMet, Selects, by_test, by_default, Known, SelectsNone, SelectsFrom, Leads, StartsBehind}
@@ -21,8 +21,8 @@ starts mark v d cs i e h k =
 pub nothing : (mark : ℕ) (v : Value) (d : Tree) (ks : List Clause) → plain_bodies ks ≡ true → Passed mark v ks → no_default ks ≡ true → Known mark d v → SelectsNone mark d ks
 nothing mark v d ks e p n k = record { none_value = v; none_known = k; none_passed = p; without_default = n; none_plain = e }
 
-pub behind : (mark : ℕ) (v : Value) (d : Tree) (cs : List SwitchCase) (i : ℕ) → value_of mark d ≡ Some v → Leads mark v cs i → plain_bodies (clauses (take i cs)) ≡ true → StartsBehind mark d (clauses (take i cs))
-behind mark v d cs i e h p = record { behind_value = v; behind_known = e; behind_passed = h.leads_passed; behind_named = h.leads_named; behind_plain = p }
+pub behind : (mark : ℕ) (v : Value) (d : Tree) (cs : List SwitchCase) (i : ℕ) → FixedValue mark d v → Leads mark v cs i → StartsBehind mark d (clauses (take i cs))
+behind mark v d cs i e h = record { behind_value = v; behind_known = e; behind_passed = h.leads_passed; behind_named = h.leads_named; behind_plain = h.leads_plain }
 
 -- from a case on
 here : (cs : List SwitchCase) (i : ℕ) (c : SwitchCase) → i < length cs → c ≡ get_or cs i c → drop i cs ≡ c ∷ drop (suc i) cs
@@ -44,6 +44,15 @@ pub no_default_more : (cs : List SwitchCase) (i : ℕ) (c : SwitchCase) → i < 
 no_default_more cs i c within at e f =
     subst (λ ks. no_default ks ≡ true) (sym (ap clauses (take_more cs i c within ∙ ap (λ y. take i cs ++ y ∷ []) (sym at)) ∙ map-append clause (take i cs) (c ∷ [])))
     (no_default_both (clauses (take i cs)) (clause c ∷ []) e (and_from (not (clause c).is_default) true (ap not f) refl))
+
+plain_both : (fs ks : List Clause) → plain_bodies fs ≡ true → plain_bodies ks ≡ true → plain_bodies (fs ++ ks) ≡ true
+plain_both [] ks e f = f
+plain_both (k ∷ fs) ks e f = let p = and_parts (all_plain k.body) (plain_bodies fs) e in and_from (all_plain k.body) (plain_bodies (fs ++ ks)) p.0 (plain_both fs ks p.1 f)
+
+pub plain_more : (cs : List SwitchCase) (i : ℕ) (c : SwitchCase) → i < length cs → c ≡ get_or cs i c → plain_bodies (clauses (take i cs)) ≡ true → all_plain (clause c).body ≡ true → plain_bodies (clauses (take (i + 1) cs)) ≡ true
+plain_more cs i c within at e f =
+    subst (λ ks. plain_bodies ks ≡ true) (sym (ap clauses (take_more cs i c within ∙ ap (λ y. take i cs ++ y ∷ []) (sym at)) ∙ map-append clause (take i cs) (c ∷ [])))
+    (plain_both (clauses (take i cs)) (clause c ∷ []) e (and_from (all_plain (clause c).body) true f refl))
 
 pub no_default_all : (cs : List SwitchCase) (i : ℕ) → length cs ≤ i → no_default (clauses (take i cs)) ≡ true → no_default (clauses cs) ≡ true
 no_default_all cs i within h = subst (λ ds. no_default (clauses ds) ≡ true) (take_all i cs within) h

@@ -148,7 +148,7 @@ value_weighs mark (node (Try (Some o)) ss cs) w e = omega arith
 value_weighs mark (node l ss cs) w e = omega arith
 
 first_passed : (mark : ℕ) (v : Value) {k : Clause} {ks : List Clause} → k.is_default ≡ false → Passed mark v (k ∷ ks) → (1 ≤ weight k.test) × Passed mark v ks
-first_passed mark v d (unequal k w e f g h p) = (value_weighs mark k.test w g, p)
+first_passed mark v d (unequal k w e f g h p) = (value_weighs mark k.test w g.known, p)
 first_passed mark v d (over_default k e p) = absurd (false≢true (sym d ∙ e))
 
 opposite : (b : Bool) → not b ≡ true → b ≡ false

@@ -8,9 +8,8 @@ use Rattle.swc_ast.specs.declared.Span.{Span}
 use Rattle.swc_ast.specs.declared.statements.Stmt.{Stmt}
 use Rattle.swc_ast.specs.declared.statements.SwitchCase.{SwitchCase}
 use Rattle.swc_utils.specs.Pure.{pure}
-use Rattle.expr_rules.specs.Values.{value_of}
-use Rattle.branch_rules.specs.Statements.{as_statement}
-use Rattle.branch_rules.specs.Switches.{Clause, switch_tree, no_default, Passed, SwitchStep}
+use Rattle.branch_rules.specs.Statements.{all_plain, as_statement}
+use Rattle.branch_rules.specs.Switches.{Clause, FixedValue, switch_tree, no_default, Passed, SwitchStep}
 use Rattle.branch_switch.specs.Clauses.{clauses, all_idle, plain_bodies}
 use Rattle.branch_switch.specs.Defaults.{DefaultAlone}
 use Rattle.branch_switch.specs.Kept.{bodies_fit}
@@ -25,7 +24,7 @@ pub data Switched (mark : ℕ) (span : Span) (d : Tree) (ks : List Clause) (s : 
 pub record Tested (mark : ℕ) (v : Value) (t : Tree) (equal : Bool) : Type 0 where
   pub value : Value
   pub pure_test : pure mark t ≡ true
-  pub known : value_of mark t ≡ Some value
+  pub known : FixedValue mark t value
   pub compared : strict_equal (prim v) (prim value) ≡ Some equal
 
 -- a case whose test a value meets
@@ -41,7 +40,7 @@ pub data Selects (mark : ℕ) (v : Value) : List Clause → List Clause → Type
 -- a discriminant whose value is known and that does nothing
 pub record Known (mark : ℕ) (d : Tree) (v : Value) : Type 0 where
   pub pure_value : pure mark d ≡ true
-  pub known_value : value_of mark d ≡ Some v
+  pub known_value : FixedValue mark d v
 
 -- no case is selected, and none declares anything
 pub record SelectsNone (mark : ℕ) (d : Tree) (ks : List Clause) : Type 0 where
@@ -59,21 +58,23 @@ pub record SelectsFrom (mark : ℕ) (d : Tree) (fs ks : List Clause) : Type 0 wh
   pub front_plain : plain_bodies fs ≡ true
   pub back_fits : bodies_fit false ks ≡ true
 
--- a case that isn't `default`, and that a value passes
+-- a case that isn't `default`, that declares nothing, and that a value passes
 pub record Skipped (mark : ℕ) (v : Value) (k : Clause) : Type 0 where
   pub skipped_named : k.is_default ≡ false
+  pub skipped_plain : all_plain k.body ≡ true
   pub skipped_passed : Passed mark v (k ∷ [])
 
 -- as many cases in front are such ones
 pub record Leads (mark : ℕ) (v : Value) (cs : List SwitchCase) (n : ℕ) : Type 0 where
   pub leads_passed : Passed mark v (clauses (take n cs))
   pub leads_named : no_default (clauses (take n cs)) ≡ true
+  pub leads_plain : plain_bodies (clauses (take n cs)) ≡ true
   pub leads_within : n ≤ length cs
 
 -- cases in front are passed, and declare nothing
 pub record StartsBehind (mark : ℕ) (d : Tree) (fs : List Clause) : Type 0 where
   pub behind_value : Value
-  pub behind_known : value_of mark d ≡ Some behind_value
+  pub behind_known : FixedValue mark d behind_value
   pub behind_passed : Passed mark behind_value fs
   pub behind_named : no_default fs ≡ true
   pub behind_plain : plain_bodies fs ≡ true

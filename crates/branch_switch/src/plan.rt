@@ -116,7 +116,7 @@ fn plan_behind(
     match value_of(alloc, ctx, discriminant)? {
         Some(value) => {
             let count = leading(alloc, ctx, &value, cases)?;
-            if count > 0 && have_plain_bodies(&cases[..count]) {
+            if count > 0 {
                 return Ok(Some(Plan::Behind(count)));
             }
             Ok(None)

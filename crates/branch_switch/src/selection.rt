@@ -10,6 +10,7 @@ ghost use Rattle.branch_switch.specs.Plans.{Leads, Skipped};
 ghost use Rattle.branch_switch.specs.Values.{Compares, Finds, Meets, value_in};
 
 use crate::values::{Known, value_of};
+use branch_parts::are_plain;
 use std::alloc::{AllocError, Global};
 use swc_ast::{Expr, SwitchCase};
 use swc_utils::{ExprCtx, ExprExt};
@@ -112,7 +113,7 @@ pub(crate) fn find(
     Ok(find_default(cases))
 }
 
-/// Whether a case isn't `default`, and is known to be passed.
+/// Whether a case isn't `default`, declares nothing, and is known to be passed.
 fn is_skipped(
     alloc: Global,
     ctx: &ExprCtx,
@@ -124,6 +125,9 @@ fn is_skipped(
     if is_default(case) {
         return Ok(false);
     }
+    if !are_plain(&case.cons) {
+        return Ok(false);
+    }
     match met(alloc, ctx, value, case)? {
         Meeting::Unknown => Ok(false),
         Meeting::Passed => Ok(true),
@@ -131,7 +135,7 @@ fn is_skipped(
     }
 }
 
-/// How many cases in front aren't `default`, and are known to be passed. Fails where memory is refused.
+/// How many cases in front aren't `default`, declare nothing, and are known to be passed. Fails where memory is refused.
 pub(crate) fn leading(
     alloc: Global,
     ctx: &ExprCtx,

@@ -1,10 +1,11 @@
 //! Values that are known without a run.
-ghost use Rattle.std.specs.Prelude.{◌≡◌, IfOk, IfSome, Some};
+ghost use Rattle.std.specs.Prelude.{◌≡◌, true, IfOk, IfSome, IsTrue, Some};
 ghost use Rattle.swc_ast.specs.Operators.{int_eq, numeric_equal, prim, strict_equal};
 ghost use Rattle.swc_ast.specs.Views.{expr_tree};
 ghost use Rattle.swc_utils.specs.Globals.{unresolved};
 ghost use Rattle.swc_utils.specs.Known.{number, text, truth};
 ghost use Rattle.expr_rules.specs.Values as rules;
+ghost use Rattle.branch_rules.specs.Switches.{FixedValue, is_fixed as tree_is_fixed};
 ghost use Rattle.branch_switch.specs.Values.{value_in};
 
 use std::alloc::{AllocError, Global};
@@ -52,9 +53,21 @@ fn as_text(alloc: Global, ctx: &ExprCtx, e: &Expr) -> Result<Option<Known>, Allo
     }
 }
 
+/// Whether an expression is a literal or a name; of `undefined` and `NaN` the value is known.
+#[tactic(auto, using(swc_ast::proofs::Equations::forms))]
+fn is_fixed(e: &Expr) -> bool
+    ensures { IsTrue result → tree_is_fixed (expr_tree e.now) ≡ true }
+{
+    match e {
+        Expr::Lit(_) => true,
+        Expr::Ident(_) => true,
+        _ => false,
+    }
+}
+
 /// The value of an expression, if it is known. Fails where memory for a text is refused.
 #[tactic(auto, using(crate::proofs::Typed::value_at))]
-pub(crate) fn value_of(alloc: Global, ctx: &ExprCtx, e: &Expr) -> Result<Option<Known>, AllocError>
+fn known_value(alloc: Global, ctx: &ExprCtx, e: &Expr) -> Result<Option<Known>, AllocError>
     ensures { IfOk result (λ o. IfSome o (λ k. rules.value_of (unresolved ctx.now) (expr_tree e.now) ≡ Some (value_in k))) }
 {
     match e.get_type(ctx) {
@@ -67,6 +80,19 @@ pub(crate) fn value_of(alloc: Global, ctx: &ExprCtx, e: &Expr) -> Result<Option<
             ValueType::Obj => Ok(None),
         },
         Value::Unknown => Ok(None),
+    }
+}
+
+/// The value of a literal, of `undefined` or of `NaN`; of another expression none. Fails where memory for a text is refused.
+pub(crate) fn value_of(alloc: Global, ctx: &ExprCtx, e: &Expr) -> Result<Option<Known>, AllocError>
+    ensures { IfOk result (λ o. IfSome o (λ k. FixedValue (unresolved ctx.now) (expr_tree e.now) (value_in k))) }
+{
+    if !is_fixed(e) {
+        return Ok(None);
+    }
+    match known_value(alloc, ctx, e)? {
+        Some(value) => Ok(Some(value)),
+        None => Ok(None),
     }
 }
 

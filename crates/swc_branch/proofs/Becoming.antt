@@ -1,17 +1,19 @@
 -- What the rules of statements and of lists do, as the walk asks for it.
-use Rattle.std.proofs.Common.{◌≡◌, ℕ, Bool, true, false, List, Option, Some, Ok, Err, IfOk, sym, subst}
+use Rattle.std.proofs.Common.{◌≡◌, ℕ, Bool, true, false, List, Option, Some, None, Ok, Err, IfOk, sym, subst}
 use Rattle.std.specs.declared.alloc.AllocError.{AllocError}
 use Rattle.std.specs.declared.result.Result.{Result}
 use Rattle.swc_ast.specs.Parts.{list_trees}
 use Rattle.swc_ast.specs.Tree.{Tree}
 use Rattle.swc_ast.specs.Views.{stmt_tree}
 use Rattle.swc_ast.specs.declared.statements.Stmt.{Stmt}
+use Rattle.swc_ast.specs.Weight.{is_list}
+use Rattle.swc_static.specs.Names.{label_of}
 use Rattle.swc_walk.specs.Lists.{ListBecame}
 use Rattle.swc_walk.specs.declared.rules.ListPlace.{ListPlace}
 use Rattle.swc_walk.specs.declared.rules.ListPlace.TheVariants as place
 use Rattle.branch_lists.specs.Tidy.{ListTidied, nothing_kept}
-use Rattle.branch_rules.specs.Removes.{Removes, of_statement, remove_pass}
-use Rattle.branch_rules.specs.Turns.{Turns, by_rule}
+use Rattle.branch_rules.specs.Removes.{Removes, followed, of_statement, remove_pass}
+use Rattle.branch_rules.specs.Turns.{Turns, as_it_was, by_rule}
 
 -- what a rule made of a statement
 turned : {mark : ℕ} {t u : Tree} {s : Stmt} → Turns mark t u (Some s) → Removes mark t (stmt_tree s)
@@ -19,6 +21,17 @@ turned {mark} {t} (by_rule rs r e) = subst (Removes mark t) (sym e) (of_statemen
 
 pub turned_at : (mark : ℕ) (t u : Tree) (o : Option Stmt) (s : Stmt) → o ≡ Some s → Turns mark t u o → Removes mark t (stmt_tree s)
 turned_at mark t u o s is h = turned (subst (Turns mark t u) is h)
+
+-- where no rule took it, it is as it was
+pub unturned_at : (mark : ℕ) (t u : Tree) (o : Option Stmt) → o ≡ None → Turns mark t u o → u ≡ t
+unturned_at mark t u o is h = by (subst (Turns mark t u) is h)
+  where
+    by : Turns mark t u None → u ≡ t
+    by (as_it_was e) = e
+
+-- a rule behind others
+pub followed_at : (mark : ℕ) (x u : Tree) (o : Option Stmt) (s : Stmt) → o ≡ Some s → Turns mark x u o → (t : Tree) → is_list (label_of t) ≡ false → Removes mark t x → Removes mark t (stmt_tree s)
+followed_at mark x u o s is h t n r = followed n r (turned_at mark x u o s is h)
 
 -- lists
 list_became : (mark : ℕ) (p : ListPlace) (c : Bool) (xs ys : List Stmt) → ListTidied nothing_kept c (list_trees stmt_tree xs) (list_trees stmt_tree ys) → ListBecame (remove_pass mark) p c xs ys

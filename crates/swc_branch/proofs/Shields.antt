@@ -65,7 +65,7 @@ opened_heavy (items ks ss cs e) = omega arith
 opened_heavy (properties ss cs e) = omega arith
 opened_heavy (texts qs ss cs) = omega arith
 opened_heavy (arguments ss f cs e) = omega arith
-opened_heavy (new_arguments ss f cs e) = omega arith
+opened_heavy (new_arguments ss f cs x e) = omega arith
 
 changed_heavy : {mark : ℕ} {t : Tree} {o : Option Tree} → Ignores mark true t o → is_light t ≡ false → 2 ≤ weight t
 unfolding own_weight

@@ -13,15 +13,15 @@ use swc_utils::ExprCtx;
 use swc_walk::{walk_module, walk_script};
 
 /// A pass that removes dead branches, in one walk, children first: conditions and loops of known truth, `switch` on a known
-/// value, statements that do nothing, what stands behind a statement that ends its list, and what is left of expressions
-/// whose values are not used.
+/// value, statements that do nothing, statements behind one that ends its list, and expressions without effects whose values
+/// are not used.
 #[derive(Drop)]
 pub struct Remover {
     unresolved_mark: Mark,
     changed: bool,
 }
 
-/// The pass for modules whose unresolved names bear the mark.
+/// Returns the pass for modules whose unresolved names have the mark.
 pub fn dead_branch_remover(unresolved_mark: Mark) -> Remover
     ensures settings { ⟦<Remover as Pass>⟧.settings result ≡ unresolved_mark }
     ensures changed { ⟦<Remover as Repeated>⟧.is_changed result ≡ false }

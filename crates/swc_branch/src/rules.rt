@@ -1,17 +1,18 @@
 //! The rules of the pass at each node.
-ghost use Rattle.std.specs.Prelude.{◌≡◌, not, IfOk};
+ghost use Rattle.std.specs.Prelude.{◌≡◌, false, not, IfOk};
 ghost use Rattle.swc_ast.specs.Expressions.{param_tree};
 ghost use Rattle.swc_ast.specs.Redex as redex;
-ghost use Rattle.swc_ast.specs.Views.{expr_tree};
+ghost use Rattle.swc_ast.specs.Views.{expr_tree, stmt_tree};
+ghost use Rattle.swc_ast.specs.Weight.{is_list};
 ghost use Rattle.swc_static.specs.Names.{label_of};
 ghost use Rattle.swc_utils.specs.Globals.{unresolved};
-ghost use Rattle.swc_walk.specs.Walks.{Stepped};
+ghost use Rattle.swc_walk.specs.Walks.{Became, Stepped};
 ghost use Rattle.expr_places.specs.Dropped.{has_void_default};
 ghost use Rattle.branch_rules.specs.Removes.{remove_pass};
 
 use crate::expressions::fold_expr;
 use crate::places::is_cramped;
-use crate::statements::fold_stmt;
+use crate::statements::{finish_for, fold_stmt, is_for};
 use branch_lists::{tidy_items, tidy_statements};
 use expr_places::{drop_default, is_delete, shielded};
 use std::alloc::{AllocError, Global};
@@ -24,6 +25,23 @@ use swc_walk::{ListPlace, Place, Rules};
 pub(crate) struct BranchRules {
     pub(crate) alloc: Global,
     pub(crate) ctx: ExprCtx,
+}
+
+impl BranchRules {
+    /// A `for` whose children are walked: all of its rules, in one visit.
+    fn leave_for(&self, s: &mut Stmt) -> Result<bool, AllocError>
+        requires { is_list (label_of (stmt_tree s.old)) ≡ false }
+        ensures { IfOk result (λ changed. Became (remove_pass (unresolved self.now.ctx)) changed (stmt_tree s.old) (stmt_tree s.new)) }
+    {
+        match fold_stmt(self.alloc, &self.ctx, s)? {
+            Some(turned) => {
+                *s = turned;
+                finish_for(self.alloc, &self.ctx, s)?;
+                Ok(true)
+            }
+            None => Ok(false),
+        }
+    }
 }
 
 impl Rules for BranchRules {
@@ -57,6 +75,9 @@ impl Rules for BranchRules {
     }
 
     fn leave_stmt(&self, s: &mut Stmt) -> Result<bool, AllocError> {
+        if is_for(s) {
+            return self.leave_for(s);
+        }
         match fold_stmt(self.alloc, &self.ctx, s)? {
             Some(turned) => {
                 *s = turned;

@@ -1,8 +1,11 @@
 //! The rules of statements.
-ghost use Rattle.std.specs.Prelude.{IfOk, IsNone};
+ghost use Rattle.std.specs.Prelude.{◌≡◌, false, IfOk, IsNone, IsTrue, OnOk};
+ghost use Rattle.swc_ast.specs.Tree.{Tree};
 ghost use Rattle.swc_ast.specs.Views.{stmt_tree};
+ghost use Rattle.swc_ast.specs.Weight.{is_list};
+ghost use Rattle.swc_static.specs.Names.{label_of};
 ghost use Rattle.swc_utils.specs.Globals.{unresolved};
-ghost use Rattle.branch_rules.specs.Removes.{Rests};
+ghost use Rattle.branch_rules.specs.Removes.{Removes, Rests};
 ghost use Rattle.branch_rules.specs.Turns.{Turns};
 
 use branch_loops::{fold_do, fold_for, fold_while};
@@ -40,4 +43,54 @@ pub(crate) fn fold_stmt(
         | Stmt::Throw(_)
         | Stmt::Decl(_) => Ok(None),
     }
+}
+
+/// As many rules at most take a `for` behind the first one: on its first part, its update, its test and its body.
+const FURTHER: usize = 5;
+
+/// Whether a statement is a `for`.
+#[tactic(auto, using(swc_ast::proofs::Equations::forms))]
+pub(crate) fn is_for(s: &Stmt) -> bool
+    ensures { IsTrue result → is_list (label_of (stmt_tree s.now)) ≡ false }
+{
+    match s {
+        Stmt::For(_) => true,
+        _ => false,
+    }
+}
+
+/// What takes the place of a `for`, by one rule. None where no rule fits, and at other statements.
+#[tactic(auto, using(swc_ast::proofs::Equations::forms, crate::proofs::Turning::unturned))]
+fn fold_again(alloc: Global, ctx: &ExprCtx, s: &mut Stmt) -> Result<Option<Stmt>, AllocError>
+    ensures { IfOk result (λ o. Turns (unresolved ctx.now) (stmt_tree s.old) (stmt_tree s.new) o) }
+{
+    match s {
+        Stmt::For(n) => fold_for(alloc, ctx, n),
+        _ => Ok(None),
+    }
+}
+
+/// Puts what a rule makes of a `for` into its place, and says whether there is one.
+fn go_on(alloc: Global, ctx: &ExprCtx, s: &mut Stmt) -> Result<bool, AllocError>
+    ensures { IfOk result (λ c. (t : Tree) → is_list (label_of t) ≡ false → Removes (unresolved ctx.now) t (stmt_tree s.old) → Removes (unresolved ctx.now) t (stmt_tree s.new)) }
+{
+    match fold_again(alloc, ctx, s)? {
+        Some(turned) => {
+            *s = turned;
+            Ok(true)
+        }
+        None => Ok(false),
+    }
+}
+
+/// The rules of `for`, one behind another, where a statement became one.
+pub(crate) fn finish_for(alloc: Global, ctx: &ExprCtx, s: &mut Stmt) -> Result<(), AllocError>
+    ensures { OnOk result ((t : Tree) → is_list (label_of t) ≡ false → Removes (unresolved ctx.now) t (stmt_tree s.old) → Removes (unresolved ctx.now) t (stmt_tree s.new)) }
+{
+    for _ in 0..FURTHER {
+        if !go_on(alloc, ctx, s)? {
+            return Ok(());
+        }
+    }
+    Ok(())
 }

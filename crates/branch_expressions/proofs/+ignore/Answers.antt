@@ -1,4 +1,4 @@
-use Rattle.std.proofs.Common.{rules, [], ◌∷◌, map, sym, ap, subst, ◌∙◌}
+use Rattle.std.proofs.Common.{rules, true, [], ◌∷◌, map, sym, ap, subst, ◌∙◌}
 use Rattle.swc_ast.specs.Expressions.{array_tree, item_kind, item_spans, item_trees, quasi_span, quasi_text}
 use Rattle.swc_ast.specs.Parts.{list_trees}
 use Rattle.swc_ast.specs.Views.{expr_tree, prop_or_spread_tree}
@@ -6,22 +6,31 @@ use Rattle.swc_ast.proofs.Equations.{expr_tree-Array}
 use Rattle.swc_utils.specs.Effects.{has_record_spread}
 use Rattle.swc_utils.specs.Globals.{unresolved}
 use Rattle.swc_utils.specs.Pure.{has_spread, is_pure_callee}
-use Rattle.branch_rules.specs.Ignored.{properties_parts}
+use Rattle.branch_rules.specs.Ignored.{is_function_expression, properties_parts}
 use Rattle.branch_expressions.specs.Choices.{Decides}
 use Rattle.branch_expressions.specs.Left.{Rested}
 use Rattle.branch_expressions.proofs.Adding.{adds_all, adds_more, adds_none, adds_nothing, row_joined}
-use Rattle.branch_expressions.proofs.Answered.{sequence_rested, sequence_same, template_rested, call_rested, new_rested, array_rested, object_rested, items_rested, side_known, sides_rested}
+use Rattle.branch_expressions.proofs.Answered.{sequence_rested, sequence_same, template_rested, call_rested, new_rested, array_rested, object_rested, items_rested, pure_rested, side_known, sides_rested}
 use Rattle.branch_expressions.proofs.Arms.{arms_choice, arms_gone_at}
 use Rattle.branch_expressions.proofs.ArrayItems.{items_all, items_more, items_none, plain_goes, plain_stays, trees_joined}
-use Rattle.branch_expressions.proofs.Made.{goes_pure, nothing_left, some_left}
+use Rattle.branch_expressions.proofs.Made.{nothing_left, some_left}
 use Rattle.branch_expressions.proofs.Nodes.{leaves, none_spread, own_alone, properties_row}
 use Rattle.branch_expressions.proofs.+ignore.Goals as goal
 
 pub ignored::left_of-returns : goal.ignored::left_of-returns
 ignored::left_of-returns t c = leaves (unresolved c.args.ctx.now) (expr_tree c.args.e.now) c.in_ok-rest.rest c.moved.result (c.moved.ensures _ _ c.in_ok-rest.ensures)
 
-pub ignored::rest_of-returns-then-not-may_have_side_effects : goal.ignored::rest_of-returns-then-not-may_have_side_effects
-ignored::rest_of-returns-then-not-may_have_side_effects t c = goes_pure _ c.args.e.now _ c.may_have_side_effects.ensures.answer c.if-not-may_have_side_effects.true
+pub ignored::left_of-returns-then-goes : goal.ignored::left_of-returns-then-goes
+ignored::left_of-returns-then-goes t c = record { changed = true; ignores = c.goes.ensures c.if-goes.true }
+
+pub ignored::rest_of-returns-then-is_value : goal.ignored::rest_of-returns-then-is_value
+ignored::rest_of-returns-then-is_value t c = c.is_value.ensures c.if-is_value.true
+
+pub parts::add-returns-then-goes : goal.parts::add-returns-then-goes
+parts::add-returns-then-goes t c = adds_nothing _ _ _ (c.goes.ensures c.if-goes.true)
+
+pub operators::rest_of_pure-returns : goal.operators::rest_of_pure-returns
+operators::rest_of_pure-returns t c = pure_rested (unresolved c.args.ctx.now) c.args.n.now.op c.args.n.now.span (expr_tree c.args.n.now.left.value) (expr_tree c.args.n.now.right.value) _ (expr_tree c.deref_mut.result.now) (expr_tree c.deref_mut-2.result.now) c.in_ok-left.left c.in_ok-right.right c.only_one.result c.changed.result c.requires.evaluated c.requires.left c.requires.right c.in_ok-left.ensures (ap expr_tree c.deref_mut.ensures.value) c.in_ok-right.ensures (ap expr_tree c.deref_mut-2.ensures.value) c.only_one.ensures c.changed.ensures
 
 pub parts::add-returns-in_ok-made-in-Some : goal.parts::add-returns-in_ok-made-in-Some
 parts::add-returns-in_ok-made-in-Some t c = c.in_ok-made-in-Some.ensures _ _ (some_left (unresolved c.args.ctx.now) (expr_tree c.args.e.now) _ _ _ c.in-Some.left c.is_change-is_change.ensures c.in-Some.is (c.moved.ensures _ _ c.in_ok-rest.ensures))
@@ -87,7 +96,7 @@ pub lists::rest_of_call-returns : goal.lists::rest_of_call-returns
 lists::rest_of_call-returns t c = call_rested (unresolved c.args.ctx.now) (c.args.n.now.span ∷ []) (list_trees expr_tree c.args.n.now.args.items) _ c.new-out.result.items c.add_all.new.out.items _ c.as_one.result c.changed.result (c.args.n.now.span ∷ []) c.args.n.now.span (expr_tree c.args.n.now.callee.value) (sym (ap (λ x. is_pure_callee (expr_tree x)) c.deref.ensures) ∙ sym c.is_pure_callee.ensures ∙ c.if-not-is_pure_callee.false) c.new-out.ensures.items c.in_ok-add_all.ensures c.as_one.ensures c.changed.ensures
 
 pub lists::rest_of_new-returns : goal.lists::rest_of_new-returns
-lists::rest_of_new-returns t c = new_rested (unresolved c.args.ctx.now) (c.args.n.now.span ∷ []) (list_trees expr_tree c.args.n.now.args.items) _ c.new-out.result.items c.add_all.new.out.items _ c.as_one.result c.changed.result (c.args.n.now.span ∷ []) (expr_tree c.args.n.now.callee.value) (sym (ap (λ x. is_pure_callee (expr_tree x)) c.deref.ensures) ∙ sym c.is_pure_callee.ensures ∙ c.if-not-is_pure_callee.false) c.new-out.ensures.items c.in_ok-add_all.ensures c.as_one.ensures c.changed.ensures
+lists::rest_of_new-returns t c = new_rested (unresolved c.args.ctx.now) (c.args.n.now.span ∷ []) (list_trees expr_tree c.args.n.now.args.items) _ c.new-out.result.items c.add_all.new.out.items _ c.as_one.result c.changed.result (c.args.n.now.span ∷ []) (expr_tree c.args.n.now.callee.value) (sym (ap (λ x. is_function_expression (expr_tree x)) c.deref.ensures) ∙ c.is_idle_function.ensures.function c.if-not-is_idle_function.false) (sym (ap (λ x. is_pure_callee (expr_tree x)) c.deref.ensures) ∙ c.is_idle_function.ensures.idle c.if-not-is_idle_function.false) c.new-out.ensures.items c.in_ok-add_all.ensures c.as_one.ensures c.changed.ensures
 
 pub lists::rest_of_array-returns : goal.lists::rest_of_array-returns
 lists::rest_of_array-returns t c = array_rested (unresolved c.args.ctx.now) (c.args.n.now.span ∷ item_spans c.args.n.now.elems.items) (item_trees expr_tree c.args.n.now.elems.items) _ c.new-out.result.items c.add_items.new.out.items _ c.as_one.result c.changed.result (c.args.n.now.span ∷ []) (map item_kind c.args.n.now.elems.items) (ap (λ xs. has_spread (map item_kind xs)) (sym c.deref.ensures.value) ∙ sym c.has_spread.ensures ∙ c.if-has_spread.false) c.new-out.ensures.items c.in_ok-add_items.ensures c.as_one.ensures c.changed.ensures

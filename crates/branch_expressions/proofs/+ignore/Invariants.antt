@@ -34,6 +34,9 @@ decreases-operators::rest_of_guarded l = 16 * goal.size-operators::rest_of_guard
 abbrev pub decreases-operators::rest_of_choice : goal.decreases-operators::rest_of_choice
 decreases-operators::rest_of_choice l = 16 * goal.size-operators::rest_of_choice l + 3
 
+abbrev pub decreases-operators::rest_of_pure : goal.decreases-operators::rest_of_pure
+decreases-operators::rest_of_pure l = 16 * goal.size-operators::rest_of_pure l + 2
+
 abbrev pub decreases-operators::rest_of_binary : goal.decreases-operators::rest_of_binary
 decreases-operators::rest_of_binary l = 16 * goal.size-operators::rest_of_binary l + 4
 

@@ -1,7 +1,7 @@
-use Rattle.std.proofs.Common.{rules, refl, sym, ap, ◌∙◌}
+use Rattle.std.proofs.Common.{rules, refl, subst}
 use Rattle.swc_ast.specs.Views.{stmt_tree}
 use Rattle.branch_rules.specs.Turns.{as_it_was}
-use Rattle.branch_loops.specs.Bodies.{is_heavy}
+use Rattle.branch_loops.specs.Bodies.{Outweighs}
 use Rattle.branch_loops.proofs.ForSteps.{never_for, no_body, no_update, test_is_false}
 use Rattle.branch_loops.proofs.fors.fold_never.Goals as goal
 
@@ -11,10 +11,10 @@ returns-then-not-has_init c = λ mark h. never_for mark c.args.n.now _ _ _ c.in_
 pub returns-then-has_update : goal.returns-then-has_update
 returns-then-has_update c = λ mark h. no_update mark c.args.n.now _ h _ _ c.in_ok-take_for.ensures (c.has_update.ensures c.if-has_update.true) refl refl refl refl
 
-pub returns-then-is_heavy : goal.returns-then-is_heavy
-returns-then-is_heavy c = λ mark h.
-    no_body mark c.args.n.now _ h _ _ _ _ c.in_ok-take_for-2.ensures c.in_ok-n.ensures c.deref-then-is_heavy.ensures
-    (ap (λ x. is_heavy (stmt_tree x)) (sym c.deref-2.ensures) ∙ sym c.is_heavy.ensures ∙ c.if-is_heavy.true)
+pub returns-then-outweighs : goal.returns-then-outweighs
+returns-then-outweighs c = λ mark h.
+    no_body mark c.args.n.now _ h _ _ _ _ c.in_ok-take_for-2.ensures c.in_ok-n.ensures c.deref-then-outweighs.ensures
+    (subst (λ x. Outweighs (stmt_tree x)) c.deref-2.ensures (c.outweighs.ensures c.if-outweighs.true))
     (search rules) refl refl refl
 
 pub returns-then-is_open : goal.returns-then-is_open

@@ -11,7 +11,7 @@ pub returns : goal.returns
 returns c =
     let mark = unresolved c.args.ctx.now in
     at_if mark c.args.n.now _ _
-    (choose_turns mark c.args.known c.args.n.now.span _ c.args.n.now.test.value (arms c.args.n.now) (list_trees stmt_tree c.new-out.result.items) (list_trees stmt_tree c.push_left.new.out.items) (list_trees stmt_tree c.push_arms.new.out.items) _ c.as_one.result
+    (choose_turns mark c.args.known c.args.n.now.span _ c.args.n.now.test.value (arms c.args.n.now) (list_trees stmt_tree c.new-out.result.items) (list_trees stmt_tree c.push_effects.new.out.items) (list_trees stmt_tree c.push_arms.new.out.items) _ c.as_one.result
     c.requires.truth c.requires.plain (arms_give c.args.n.now.cons.value c.args.n.now.alt) (ap (list_trees stmt_tree) c.new-out.ensures.items)
-    (subst (λ e. LeftBehind mark (expr_tree e) (list_trees stmt_tree c.new-out.result.items) (list_trees stmt_tree c.push_left.new.out.items)) c.deref_mut.ensures.value c.in_ok-push_left.ensures)
+    (subst (λ e. LeftBehind mark (expr_tree e) (list_trees stmt_tree c.new-out.result.items) (list_trees stmt_tree c.push_effects.new.out.items)) c.deref_mut.ensures.value c.in_ok-push_effects.ensures)
     c.in_ok-push_arms.ensures c.as_one.ensures)

@@ -2,16 +2,17 @@ use Rattle.std.proofs.Common.{refl, rules}
 use Rattle.swc_utils.specs.Globals.{unresolved}
 use Rattle.branch_rules.specs.Switches.{none_passed}
 use Rattle.branch_switch.specs.Values.{value_in}
-use Rattle.branch_switch.proofs.Planned.{no_default_more}
+use Rattle.branch_switch.proofs.Planned.{no_default_more, plain_more}
 use Rattle.branch_switch.proofs.Selected.{passed_more}
 use Rattle.branch_switch.proofs.selection.leading.Goals as goal
 
 pub loop-i-init : goal.loop-i-init
-loop-i-init c = (none_passed, refl)
+loop-i-init c = (none_passed, refl, refl)
 
 pub loop-i-preserved : goal.loop-i-preserved
 loop-i-preserved c =
     let h = c.in_ok-is_skipped.ensures c.if-not-branch.false in (
       passed_more (unresolved c.args.ctx.now) (value_in c.args.value.now) c.args.cases.now c.loop-i.i c.index-cases-i.result (search rules) (search rules) c.loop-i.invariant.0 h.skipped_passed,
       no_default_more c.args.cases.now c.loop-i.i c.index-cases-i.result (search rules) (search rules) c.loop-i.invariant.1 h.skipped_named,
+      plain_more c.args.cases.now c.loop-i.i c.index-cases-i.result (search rules) (search rules) c.loop-i.invariant.2 h.skipped_plain,
     )

@@ -1,6 +1,0 @@
-use Rattle.std.proofs.Common.{sym, ◌∙◌}
-use Rattle.branch_statements.proofs.Tells.{one_at}
-use Rattle.branch_statements.proofs.blocks.has_one_plain.Goals as goal
-
-pub returns-then-len-eq1 : goal.returns-then-len-eq1
-returns-then-len-eq1 c = λ h. one_at c.args.n.now.stmts.items c.index.result.now _ (sym c.args.n.now.stmts.ok.0 ∙ sym c.len.ensures ∙ c.if-len-eq1.true) c.index.ensures c.is_plain.ensures h
