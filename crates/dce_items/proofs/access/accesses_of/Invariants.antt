@@ -1,0 +1,6 @@
+use Rattle.swc_visit.specs.Nodes.{children_forest}
+use Rattle.swc_visit.proofs.Caps.{forest_size}
+use Rattle.dce_items.proofs.access.accesses_of.Given as goal
+
+abbrev pub decreases-loop-item : goal.decreases-loop-item
+decreases-loop-item l = forest_size (children_forest l.left)

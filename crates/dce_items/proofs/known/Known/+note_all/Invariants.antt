@@ -1,0 +1,16 @@
+use Rattle.std.proofs.Common.{◌≤◌}
+use Rattle.swc_visit.specs.Nodes.{children_forest}
+use Rattle.swc_visit.proofs.Caps.{forest_size}
+use Rattle.dce_items.proofs.Noting.{Left}
+use Rattle.dce_items.proofs.known.Known.+note_all.Given as goal
+
+abbrev pub decreases-note_all : goal.decreases-note_all
+decreases-note_all l = forest_size (children_forest l.children)
+
+abbrev pub invariant-loop-child : goal.invariant-loop-child
+invariant-loop-child l =
+    Left l.self l.initial.notes.items l.notes.items (children_forest l.children) (children_forest l.left)
+    × (forest_size (children_forest l.left) ≤ forest_size (children_forest l.children))
+
+abbrev pub decreases-loop-child : goal.decreases-loop-child
+decreases-loop-child l = forest_size (children_forest l.left)

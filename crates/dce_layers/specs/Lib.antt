@@ -1,0 +1,3 @@
+pub mod Goers
+pub mod Layers
+pub mod Walked
