@@ -1,0 +1,162 @@
+//! Memory that is refused once, at whichever request: `rt try --test --fail-alloc N` refuses the N-th. What is refused says so, and
+//! gives the right answer when it is asked again.
+use std::alloc::{AllocError, Global};
+use std::process::Abort;
+use std::test::Fail;
+use swc_ast::{Expr, Mark, Module, PassError};
+use swc_const_propagation::constant_propagation;
+use swc_expr_map::GlobalExprMap;
+use swc_inlining::inlining;
+use swc_json_parse::json_parse;
+use swc_optimization::{Config, simplifier};
+use swc_pass::{Pass, Repeated};
+use swc_text::{PrintError, ReadError, print, read_expr, read_module};
+use test_trees::number;
+
+/// What a text is read as.
+fn read(rt: &impl Abort, alloc: Global, text: &str) -> Result<Module, ReadError> {
+    let mark = Mark::new(1).expect(rt, "1 is a mark");
+    match read_module(alloc, text, mark) {
+        Err(error) => {
+            assert!(rt; error == ReadError::OutOfMemory, "{text}");
+            read_module(alloc, text, mark)
+        }
+        read => read,
+    }
+}
+
+fn read_value(rt: &impl Abort, alloc: Global, text: &str) -> Result<Expr, ReadError> {
+    let mark = Mark::new(1).expect(rt, "1 is a mark");
+    match read_expr(alloc, text, mark) {
+        Err(error) => {
+            assert!(rt; error == ReadError::OutOfMemory, "{text}");
+            read_expr(alloc, text, mark)
+        }
+        read => read,
+    }
+}
+
+fn copied(module: &Module) -> Result<Module, AllocError> {
+    let copy: Result<Module, AllocError> = module.clone();
+    if copy.is_ok() {
+        return copy;
+    }
+    Ok(module.clone()?)
+}
+
+/// Whether a module is printed as a text.
+fn is_printed(rt: &impl Abort, alloc: Global, m: &Module, wanted: &str) -> Result<bool, Fail> {
+    let printed = match print(alloc, m) {
+        Ok(text) => text,
+        Err(error) => {
+            assert!(rt; error == PrintError::OutOfMemory, "{wanted}");
+            print(alloc, m)?
+        }
+    };
+    Ok(printed.as_str() == wanted)
+}
+
+/// A text, and what a pass makes of it.
+type Row = (&'static str, &'static str);
+
+/// Runs a pass on texts, and again where it is refused.
+fn tries<P: Pass>(rt: &impl Abort, alloc: Global, pass: &mut P, rows: &[Row]) -> Result<(), Fail> {
+    for (text, wanted) in rows {
+        let module = read(rt, alloc, text)?;
+        let before = copied(&module)?;
+        let answer = match pass.run(alloc, &module) {
+            Ok(answer) => answer,
+            Err(error) => {
+                assert!(rt; error == PassError::OutOfMemory, "{text}");
+                assert!(rt; !pass.changed() && module == before, "{text}");
+                pass.run(alloc, &module)?
+            }
+        };
+        assert!(rt; is_printed(rt, alloc, &answer, *wanted)?, "{text}");
+        assert!(rt; module == before, "{text}");
+    }
+    Ok(())
+}
+
+#[test]
+fn passes_are_refused_and_run_again(rt: HostRuntime) -> Result<(), Fail> {
+    let alloc = rt.alloc();
+    let rows: [Row; 1] = [("const a = 1; f(a); x = a;", "const a = 1;\nf(1);\nx = a;\n")];
+    tries(&rt, alloc, &mut constant_propagation(), &rows)?;
+    let rows: [Row; 1] = [(
+        "let a = 'x'; f(a); if (c) { var v = 1; } f(v);",
+        "let a = 'x';\nf('x');\nif (c) { var v = 1; }\nf(v);\n",
+    )];
+    tries(&rt, alloc, &mut inlining(swc_inlining::Config {}), &rows)
+}
+
+#[test]
+fn the_simplifier_is_refused_and_runs_again(rt: HostRuntime) -> Result<(), Fail> {
+    let alloc = rt.alloc();
+    let mark = Mark::new(1).expect(&rt, "1 is a mark");
+    let rows: [Row; 5] = [
+        ("f(1 + 2);", "f(3);\n"),
+        ("let x; x = 1; f();", "f();\n"),
+        ("switch(3){default: a(); case 1: b();}", "a();\nb();\n"),
+        (
+            "import {a} from 'm'; import 'n'; f();",
+            "import 'm';\nimport 'n';\nf();\n",
+        ),
+        ("function a(){ b(); } function b(){ b(); } g();", "g();\n"),
+    ];
+    tries(&rt, alloc, &mut simplifier(mark, Config::new(alloc)), &rows)
+}
+
+/// A refused run tells of no round.
+#[test]
+fn no_round_is_told_of_a_refused_run(rt: HostRuntime) -> Result<(), Fail> {
+    let alloc = rt.alloc();
+    let mark = Mark::new(1).expect(&rt, "1 is a mark");
+    let mut pass = simplifier(mark, Config::new(alloc));
+    let module = read(&rt, alloc, "let x; x = 1; f();")?;
+    if pass.run(alloc, &module).is_err() {
+        assert!(rt; pass.rounds() == 0 && !pass.reached() && !pass.changed());
+        pass.run(alloc, &module)?;
+    }
+    assert!(rt; pass.rounds() == 3 && pass.reached() && pass.changed());
+    Ok(())
+}
+
+#[test]
+fn literals_are_refused_and_taken_then(rt: HostRuntime) -> Result<(), Fail> {
+    let alloc = rt.alloc();
+    let module = read(&rt, alloc, "f({b: 1, a: 2});")?;
+    let mut pass = json_parse(13);
+    let answer = match pass.run(alloc, &module) {
+        Ok(answer) => answer,
+        Err(error) => {
+            assert!(rt; error == PassError::OutOfMemory && !pass.changed());
+            pass.run(alloc, &module)?
+        }
+    };
+    assert!(rt; is_printed(&rt, alloc, &answer, "f(JSON.parse('{\"b\":1,\"a\":2}'));\n")?);
+    Ok(())
+}
+
+/// A refused insertion leaves the map, and looking something up takes no memory.
+#[test]
+fn a_refused_insertion_leaves_the_map(rt: HostRuntime) -> Result<(), Fail> {
+    let alloc = rt.alloc();
+    let mut map = GlobalExprMap::new(alloc);
+    for (text, before, behind) in [
+        ("a.b", 0usize, 1usize),
+        ("x", 1, 2),
+        ("a['b']", 2, 3),
+        ("y", 3, 4),
+    ] {
+        let key = read_value(&rt, alloc, text)?;
+        let again = read_value(&rt, alloc, text)?;
+        if let Err(error) = map.insert(read_value(&rt, alloc, text)?, number(1)) {
+            assert!(rt; error == PassError::OutOfMemory, "{text}");
+            assert!(rt; map.len() == before && map.get(&key).is_none(), "{text}");
+            map.insert(again, number(1))?;
+        }
+        assert!(rt; map.len() == behind && map.get(&key).is_some(), "{text}");
+    }
+    Ok(())
+}
