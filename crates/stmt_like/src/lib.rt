@@ -9,7 +9,7 @@ ghost use Rattle.swc_ast.specs.declared.modules.ModuleItem.TheVariants as items;
 
 use swc_ast::{ModuleDecl, ModuleItem, Stmt};
 
-/// A statement, or an item of a module.
+/// A statement or an item of a module.
 pub trait StmtLike: Sized {
     /// The item of a module that it stands for.
     ghost item: { Self → Item };

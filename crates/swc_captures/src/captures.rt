@@ -19,10 +19,10 @@ use swc_debug::{has_good_names, has_good_shape};
 use swc_resolved::{Half, Name, Part, add_body, add_names, add_own_names, half_of, has_default};
 use swc_visit::{Children, Kind, Node};
 
-/// Why no text stands for a tree.
+/// The reason why a tree can't be printed.
 #[derive(Clone, Copy)]
 pub enum Fault<'a> {
-    /// The text of a name would stand for what another scope binds.
+    /// The text of a name would be read as a name of another scope.
     Captured(&'a Ident),
     /// The tree isn't valid.
     Invalid,
@@ -35,10 +35,10 @@ pub(crate) struct Seen<'a> {
     is_valid: bool,
 }
 
-/// Why no text stands for a module: the first name, in the order of the text, that its text would
-/// not stand for, since the innermost scope that binds a name of this text doesn't bind the name
-/// itself; else that the module isn't valid. Where one scope binds two names of one text, neither
-/// is captured there. Fails where memory is refused.
+/// Returns why a module can't be printed, if so: the first name, in the order of the text, whose text
+/// would be read as another name, since the innermost scope that binds a name of this text doesn't
+/// bind the name itself; else that the module isn't valid. Where one scope binds two names of one
+/// text, neither is captured there. Fails if memory runs out.
 pub fn first_fault(alloc: Global, m: &Module) -> Result<Option<Fault<'_>>, AllocError>
     ensures { IfOk result (Tells (captured no_scope (module_tree m.now)) (valid (module_tree m.now))) }
 {
@@ -46,7 +46,7 @@ pub fn first_fault(alloc: Global, m: &Module) -> Result<Option<Fault<'_>>, Alloc
     Ok(fault_of(seen))
 }
 
-/// The same of a script.
+/// The same for a script.
 pub fn first_fault_of_script(alloc: Global, s: &Script) -> Result<Option<Fault<'_>>, AllocError>
     ensures { IfOk result (Tells (captured no_scope (script_tree s.now)) (valid (script_tree s.now))) }
 {

@@ -104,9 +104,9 @@ fn read_modules(
     Ok(GivenModules { modules })
 }
 
-/// The pass that replaces imports of given modules: of each module the texts of its exports, by their names. Each text is read
-/// as an expression; the mark is that of unresolved names. It refuses the first value, in order of modules and then of names,
-/// that can't be read, and where memory runs out.
+/// Returns the pass that replaces imports of given modules. For each module the texts of its exports are given, by their names.
+/// Each text is read as an expression; the mark is that of unresolved names. Fails with the first value, in the order of modules
+/// and then of names, that can't be read, and if memory runs out.
 pub fn const_modules(
     alloc: Global,
     globals: &BTreeMap<String, BTreeMap<String, String>>,

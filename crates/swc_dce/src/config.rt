@@ -5,21 +5,21 @@ ghost use Rattle.swc_dce.specs.Configured.{IsCopy};
 use std::alloc::{AllocError, Global};
 use swc_ast::Mark;
 
-/// What the tree shaker may be told.
+/// Options of the tree shaker.
 #[derive(Debug, Drop)]
 pub struct Config {
     /// A mark of modules inside the module. It is kept, and nothing reads it.
     pub module_mark: Option<Mark>,
-    /// Whether names of the top level go too.
+    /// Whether names of the top level are removed too.
     pub top_level: bool,
-    /// The texts of names that stay.
+    /// The texts of names that are kept.
     pub top_retain: Vec<String>,
-    /// Whether an import stays whose specifiers are all gone.
+    /// Whether an import is kept whose specifiers are all removed.
     pub preserve_imports_with_side_effects: bool,
 }
 
 impl Config {
-    /// Names of the top level go too, none is retained, and imports stay.
+    /// Returns the default options: names of the top level are removed too, none is retained, and imports are kept.
     pub fn new(alloc: Global) -> Config
         ensures module_mark { result.module_mark ≡ None }
         ensures top_level { result.top_level ≡ true }

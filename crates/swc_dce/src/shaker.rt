@@ -15,7 +15,7 @@ use swc_pass::{CompilerPass, Pass, Repeated};
 use swc_utils::ExprCtx;
 use swc_walk::{walk_module, walk_script};
 
-/// A pass that drops what declares names that nothing uses, and assignments to names that nothing reads, in one walk.
+/// A pass that removes declarations of names that nothing uses, and assignments to names that nothing reads, in one walk.
 #[derive(Drop)]
 pub struct TreeShaker {
     config: Config,
@@ -23,7 +23,7 @@ pub struct TreeShaker {
     changed: bool,
 }
 
-/// The pass for modules whose unresolved names bear the mark.
+/// Returns the pass for modules whose unresolved names have the mark.
 pub fn dce(config: Config, unresolved_mark: Mark) -> TreeShaker
     ensures settings { ⟦<TreeShaker as Pass>⟧.settings result ≡ configured.told unresolved_mark config }
     ensures changed { ⟦<TreeShaker as Repeated>⟧.is_changed result ≡ false }

@@ -9,7 +9,7 @@ use crate::shapes::has_good_shape;
 use swc_ast::{Module, Script};
 use swc_visit::Node;
 
-/// Whether a module is valid: no `Invalid` node, at least one declarator in each declaration and
+/// Returns whether a module is valid: no `Invalid` node, at least one declarator in each declaration and
 /// two items in each sequence, a handler or a final block in each `try`, names that are
 /// identifiers, lexical and function declarations only in lists, and one text more than
 /// expressions in each template, the last one alone marked as the tail.
@@ -19,7 +19,7 @@ pub fn is_valid(m: &Module) -> bool
     is_node_valid(Node::Module(m))
 }
 
-/// The same of a script.
+/// The same for a script.
 pub fn is_script_valid(s: &Script) -> bool
     ensures { IsTrue result ↔ valid (script_tree s.now) ≡ true }
 {

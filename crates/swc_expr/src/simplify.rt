@@ -12,7 +12,7 @@ use swc_pass::{CompilerPass, Pass, Repeated};
 use swc_utils::ExprCtx;
 use swc_walk::{walk_module, walk_script};
 
-/// What the expression simplifier may be told: nothing.
+/// Options of the expression simplifier: there are none.
 #[derive(Clone, Copy, Debug, Default, PartialEq, Eq, Hash)]
 pub struct Config {}
 
@@ -25,7 +25,7 @@ pub struct SimplifyExpr {
     changed: bool,
 }
 
-/// The pass for modules whose unresolved names bear the mark.
+/// Returns the pass for modules whose unresolved names have the mark.
 pub fn expr_simplifier(unresolved_mark: Mark, config: Config) -> SimplifyExpr
     ensures settings { ⟦<SimplifyExpr as Pass>⟧.settings result ≡ unresolved_mark }
     ensures changed { ⟦<SimplifyExpr as Repeated>⟧.is_changed result ≡ false }

@@ -128,7 +128,7 @@ pub struct JsonParse {
     changed: bool,
 }
 
-/// The pass that replaces literals whose texts have at least `min_cost` bytes. The greatest `usize` replaces none.
+/// Returns the pass that replaces literals whose texts have at least `min_cost` bytes. The greatest `usize` replaces none.
 pub fn json_parse(min_cost: usize) -> JsonParse
     ensures min_cost { result.min_cost ≡ min_cost }
     ensures changed { ⟦<JsonParse as Repeated>⟧.is_changed result ≡ false }
@@ -184,8 +184,8 @@ impl JsonParse {
         Ok(Some(copy))
     }
 
-    /// What the pass makes of a module that it takes: the module itself where it changes nothing but spans. It refuses where
-    /// memory runs out; the pass may run again then.
+    /// Runs the pass over a module and returns the result: the module itself where the pass changes nothing but spans. Fails if
+    /// memory runs out; the pass can run again after that.
     pub fn fold_module(&mut self, alloc: Global, module: Module) -> Result<Module, PassError>
         ensures min_cost { self.new.min_cost ≡ self.old.min_cost }
         ensures answer { IfOk result (λ r. Parsed self.old.min_cost (module_tree «module») (module_tree r)) }
@@ -199,8 +199,8 @@ impl JsonParse {
         }
     }
 
-    /// What the pass makes of a script that it takes: the script itself where it changes nothing but spans. It refuses where
-    /// memory runs out; the pass may run again then.
+    /// Runs the pass over a script and returns the result: the script itself where the pass changes nothing but spans. Fails if
+    /// memory runs out; the pass can run again after that.
     pub fn fold_script(&mut self, alloc: Global, script: Script) -> Result<Script, PassError>
         ensures min_cost { self.new.min_cost ≡ self.old.min_cost }
         ensures answer { IfOk result (λ r. Parsed self.old.min_cost (script_tree script) (script_tree r)) }
@@ -214,7 +214,7 @@ impl JsonParse {
         }
     }
 
-    /// What the pass makes of a copy of a module. It refuses where memory runs out; the pass may run again then.
+    /// Runs the pass over a copy of a module and returns the result. Fails if memory runs out; the pass can run again after that.
     pub fn run(&mut self, alloc: Global, module: &Module) -> Result<Module, PassError>
         ensures min_cost { self.new.min_cost ≡ self.old.min_cost }
         ensures answer { IfOk result (λ r. Parsed self.old.min_cost (module_tree «module».now) (module_tree r)) }
@@ -228,7 +228,7 @@ impl JsonParse {
         }
     }
 
-    /// What the pass makes of a copy of a script. It refuses where memory runs out; the pass may run again then.
+    /// Runs the pass over a copy of a script and returns the result. Fails if memory runs out; the pass can run again after that.
     pub fn run_script(&mut self, alloc: Global, script: &Script) -> Result<Script, PassError>
         ensures min_cost { self.new.min_cost ≡ self.old.min_cost }
         ensures answer { IfOk result (λ r. Parsed self.old.min_cost (script_tree script.now) (script_tree r)) }

@@ -3,19 +3,21 @@ ghost use Rattle.std.specs.Prelude.{◌≡◌, ◌-◌, ◌^◌, true, [], None}
 
 use std::alloc::Global;
 
-/// What the simplifier may be told: what its passes may, and how many rounds may be run.
+/// Options of the simplifier: those of its passes, and the greatest number of rounds.
 #[derive(Debug, Drop)]
 pub struct Config {
-    /// What the tree shaker is told.
+    /// Options of the tree shaker.
     pub dce: swc_dce::Config,
-    /// What the expression simplifier is told.
+    /// Options of the pass that inlines names. They are kept, and nothing reads them: the simplifier doesn't run that pass.
+    pub inlining: swc_inlining::Config,
+    /// Options of the expression simplifier.
     pub expr: swc_expr::Config,
-    /// How many rounds may be run: 0 answers the input.
+    /// The greatest number of rounds. With 0 the input is returned.
     pub max_rounds: usize,
 }
 
 impl Config {
-    /// The passes are told what they are by default, and the greatest usize bounds the rounds.
+    /// Returns the default options: those of the passes, and `usize::MAX` rounds at most.
     pub fn new(alloc: Global) -> Config
         ensures module_mark { result.dce.module_mark ≡ None }
         ensures top_level { result.dce.top_level ≡ true }
@@ -25,6 +27,7 @@ impl Config {
     {
         Config {
             dce: swc_dce::Config::new(alloc),
+            inlining: swc_inlining::Config {},
             expr: swc_expr::Config {},
             max_rounds: usize::MAX,
         }

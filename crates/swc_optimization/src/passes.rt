@@ -28,7 +28,7 @@ use swc_pass::{Chain, Pass, Repeat, Repeated};
 type Passes = Repeat<Chain<Chain<SimplifyExpr, Remover>, TreeShaker>>;
 
 /// Runs the expression simplifier, the remover of dead branches and the tree shaker, in this order, until a round of them
-/// changes nothing or a limit is met.
+/// changes nothing or the limit is reached.
 #[derive(Drop)]
 pub struct Simplifier {
     passes: Passes,
@@ -64,28 +64,28 @@ impl Simplifier {
         }
     }
 
-    /// How many rounds the last run had, the one that changed nothing too: 0 before the first run and after a refusal.
+    /// Returns the number of rounds of the last run, the one that changed nothing included: 0 before the first run and after an error.
     pub fn rounds(&self) -> usize
         ensures { result ≡ self.now.rounds }
     {
         self.passes.rounds()
     }
 
-    /// Whether the last round of the last run changed nothing: false before the first run and after a refusal.
+    /// Returns whether the last round of the last run changed nothing: false before the first run and after an error.
     pub fn reached(&self) -> bool
         ensures { result ≡ self.now.reached }
     {
         self.passes.reached()
     }
 
-    /// Whether the last run changed more than spans: false before the first run and after a refusal.
+    /// Returns whether the last run changed more than spans: false before the first run and after an error.
     pub fn changed(&self) -> bool
         ensures { result ≡ self.now.changed }
     {
         self.passes.changed()
     }
 
-    /// What rounds make of a copy of a module. It refuses where memory runs out; the simplifier may run again then.
+    /// Runs rounds over a copy of a module and returns the result. Fails if memory runs out; the simplifier can run again after that.
     pub fn run(&mut self, alloc: Global, module: &Module) -> Result<Module, PassError>
         ensures told { self.new.told ≡ self.old.told }
         ensures most { self.new.most ≡ self.old.most }
@@ -105,7 +105,7 @@ impl Simplifier {
         self.passes.run(alloc, module)
     }
 
-    /// What rounds make of a copy of a script. It refuses where memory runs out; the simplifier may run again then.
+    /// Runs rounds over a copy of a script and returns the result. Fails if memory runs out; the simplifier can run again after that.
     pub fn run_script(&mut self, alloc: Global, script: &Script) -> Result<Script, PassError>
         ensures told { self.new.told ≡ self.old.told }
         ensures most { self.new.most ≡ self.old.most }
@@ -125,7 +125,7 @@ impl Simplifier {
         self.passes.run_script(alloc, script)
     }
 
-    /// What rounds make of a module that they take. It refuses where memory runs out; the simplifier may run again then.
+    /// Runs rounds over a module and returns the result. Fails if memory runs out; the simplifier can run again after that.
     pub fn fold_module(&mut self, alloc: Global, module: Module) -> Result<Module, PassError>
         ensures told { self.new.told ≡ self.old.told }
         ensures most { self.new.most ≡ self.old.most }
@@ -145,7 +145,7 @@ impl Simplifier {
         self.passes.rewrite(alloc, module)
     }
 
-    /// What rounds make of a script that they take. It refuses where memory runs out; the simplifier may run again then.
+    /// Runs rounds over a script and returns the result. Fails if memory runs out; the simplifier can run again after that.
     pub fn fold_script(&mut self, alloc: Global, script: Script) -> Result<Script, PassError>
         ensures told { self.new.told ≡ self.old.told }
         ensures most { self.new.most ≡ self.old.most }

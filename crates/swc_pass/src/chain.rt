@@ -11,7 +11,7 @@ use crate::whole::{Made, Whole, settle};
 use std::alloc::Global;
 use swc_ast::{Mark, Module, PassError, Script};
 
-/// Two passes, one after the other. An answer that equals its input up to spans is given up for the input.
+/// Two passes, one after the other. Where the result equals the input up to spans, the input is returned.
 #[derive(Drop)]
 pub struct Chain<A: Pass, B: Pass> {
     first: A,
@@ -21,7 +21,7 @@ pub struct Chain<A: Pass, B: Pass> {
 }
 
 impl<A: Pass, B: Pass> Chain<A, B> {
-    /// The passes in their order, which tell no different marks.
+    /// Returns the two passes in this order. They have no different marks.
     pub fn new(first: A, second: B) -> Chain<A, B>
         requires { MarksAgree (A.spec (A.settings first)).mark (B.spec (B.settings second)).mark }
         ensures settings { ⟦<Chain<A, B> as Pass>⟧.settings result ≡ (A.settings first, B.settings second) }

@@ -7,7 +7,7 @@ ghost use Rattle.swc_pass.specs.Pass.{PassSpec, IsLawful, Keeps, TellsChange};
 use std::alloc::Global;
 use swc_ast::{Mark, Module, PassError, Script};
 
-/// What tells of its last run whether it changed something.
+/// A pass that records whether its last run changed something.
 pub trait Repeated {
     ghost is_changed: { Self → Bool };
 
@@ -20,11 +20,11 @@ pub trait Repeated {
     /// What a reset may make of it.
     ghost resets_to: { Self → Self → Type 0 };
 
-    /// Whether the last run changed more than spans: false before the first run and after a refusal.
+    /// Returns whether the last run changed more than spans: false before the first run and after an error.
     fn changed(&self) -> bool
         ensures { result ≡ is_changed self.now };
 
-    /// As before the first run.
+    /// Sets the pass back to its state before the first run.
     fn reset(&mut self)
         ensures kept { resets_to self.old self.new }
         ensures changed { is_changed self.new ≡ false }
@@ -42,7 +42,7 @@ pub trait CompilerPass {
         ensures { result.now ≡ its_name };
 }
 
-/// A pass over modules and scripts. Its `spec` tells what it may answer, and its laws say what holds of each answer.
+/// A pass over modules and scripts. Its `spec` says which results are possible, and its laws say what holds of each of them.
 pub trait Pass: Repeated {
     /// What it was made with, which no run changes.
     ghost Settings: { Type 0 };
@@ -51,15 +51,15 @@ pub trait Pass: Repeated {
 
     ghost spec: { Settings → PassSpec };
 
-    /// The mark that the pass was made with, if any.
+    /// Returns the mark that the pass was made with, if any.
     fn mark(&self) -> Option<Mark>
         ensures { result ≡ (spec (settings self.now)).mark };
 
-    /// Whether each change of the pass makes the module lighter.
+    /// Returns whether each change of the pass makes the module lighter.
     fn lowers(&self) -> bool
         ensures { result ≡ (spec (settings self.now)).lowers };
 
-    /// Rewrites a module in place. It refuses where memory runs out; the pass may run again then.
+    /// Rewrites a module in place. Fails if memory runs out; the pass can run again after that.
     fn rewrite(&mut self, alloc: Global, module: Module) -> Result<Module, PassError>
         ensures settings { settings self.new ≡ settings self.old }
         ensures answer { IfOk result (λ r. (spec (settings self.old)).answers (module_tree «module») (module_tree r)) }
@@ -67,7 +67,7 @@ pub trait Pass: Repeated {
         ensures refused { OnErr result ((Self.is_changed self.new ≡ false) × (Self.is_reached self.new ≡ false) × (Self.rounds_run self.new ≡ 0)) }
         ensures memory { IfErr result (λ e. e ≡ OutOfMemory) };
 
-    /// Rewrites a script in place. It refuses where memory runs out; the pass may run again then.
+    /// Rewrites a script in place. Fails if memory runs out; the pass can run again after that.
     fn rewrite_script(&mut self, alloc: Global, script: Script) -> Result<Script, PassError>
         ensures settings { settings self.new ≡ settings self.old }
         ensures answer { IfOk result (λ r. (spec (settings self.old)).answers (script_tree script) (script_tree r)) }
@@ -75,8 +75,8 @@ pub trait Pass: Repeated {
         ensures refused { OnErr result ((Self.is_changed self.new ≡ false) × (Self.is_reached self.new ≡ false) × (Self.rounds_run self.new ≡ 0)) }
         ensures memory { IfErr result (λ e. e ≡ OutOfMemory) };
 
-    /// What the pass makes of a module that it takes, and what its laws say of that. It refuses where memory runs out; the pass
-    /// may run again then.
+    /// Runs the pass over a module and returns the result, for which its laws hold. Fails if memory runs out; the pass can run
+    /// again after that.
     fn fold_module(&mut self, alloc: Global, module: Module) -> Result<Module, PassError>
         ensures settings { settings self.new ≡ settings self.old }
         ensures answer { IfOk result (λ r. (spec (settings self.old)).answers (module_tree «module») (module_tree r)) }
@@ -88,8 +88,8 @@ pub trait Pass: Repeated {
         self.rewrite(alloc, module)
     }
 
-    /// What the pass makes of a script that it takes, and what its laws say of that. It refuses where memory runs out; the pass
-    /// may run again then.
+    /// Runs the pass over a script and returns the result, for which its laws hold. Fails if memory runs out; the pass can run
+    /// again after that.
     fn fold_script(&mut self, alloc: Global, script: Script) -> Result<Script, PassError>
         ensures settings { settings self.new ≡ settings self.old }
         ensures answer { IfOk result (λ r. (spec (settings self.old)).answers (script_tree script) (script_tree r)) }
@@ -101,7 +101,8 @@ pub trait Pass: Repeated {
         self.rewrite_script(alloc, script)
     }
 
-    /// What the pass makes of a copy of a module, and what its laws say of that. It refuses where memory runs out; the pass may run again then.
+    /// Runs the pass over a copy of a module and returns the result, for which its laws hold. Fails if memory runs out; the pass can
+    /// run again after that.
     fn run(&mut self, alloc: Global, module: &Module) -> Result<Module, PassError>
         ensures settings { settings self.new ≡ settings self.old }
         ensures answer { IfOk result (λ r. (spec (settings self.old)).answers (module_tree «module».now) (module_tree r)) }
@@ -115,7 +116,8 @@ pub trait Pass: Repeated {
         self.fold_module(alloc, copy)
     }
 
-    /// What the pass makes of a copy of a script, and what its laws say of that. It refuses where memory runs out; the pass may run again then.
+    /// Runs the pass over a copy of a script and returns the result, for which its laws hold. Fails if memory runs out; the pass can
+    /// run again after that.
     fn run_script(&mut self, alloc: Global, script: &Script) -> Result<Script, PassError>
         ensures settings { settings self.new ≡ settings self.old }
         ensures answer { IfOk result (λ r. (spec (settings self.old)).answers (script_tree script.now) (script_tree r)) }

@@ -13,8 +13,8 @@ use crate::whole::{Made, Whole, settle};
 use std::alloc::Global;
 use swc_ast::{Mark, Module, PassError, Script};
 
-/// A pass that runs until a round changes nothing or a limit is met. An answer that equals its input up to spans is
-/// given up for the input.
+/// A pass that runs again and again until a round changes nothing or a limit is reached. Where the result equals the input
+/// up to spans, the input is returned.
 #[derive(Drop)]
 pub struct Repeat<P: Pass> {
     pass: P,
@@ -110,7 +110,7 @@ fn run_repeat<P: Pass, W: Whole>(
 }
 
 impl<P: Pass> Repeat<P> {
-    /// The pass, which runs at most so many times: 0 answers the input.
+    /// Returns a pass that runs at most `max_rounds` times. With 0 it returns its input.
     pub fn new(pass: P, max_rounds: usize) -> Repeat<P>
         ensures settings { ⟦<Repeat<P> as Pass>⟧.settings result ≡ (P.settings pass, max_rounds) }
         ensures changed { ⟦<Repeat<P> as Repeated>⟧.is_changed result ≡ false }
@@ -126,14 +126,14 @@ impl<P: Pass> Repeat<P> {
         }
     }
 
-    /// How many rounds the last run had, the one that changed nothing too.
+    /// Returns the number of rounds of the last run, the one that changed nothing included.
     pub fn rounds(&self) -> usize
         ensures { result ≡ ⟦<Repeat<P> as Repeated>⟧.rounds_run self.now }
     {
         self.rounds
     }
 
-    /// Whether the last round of the last run changed nothing.
+    /// Returns whether the last round of the last run changed nothing.
     pub fn reached(&self) -> bool
         ensures { result ≡ ⟦<Repeat<P> as Repeated>⟧.is_reached self.now }
     {

@@ -10,19 +10,19 @@ use crate::pass::Pass;
 use std::alloc::{AllocError, Global};
 use swc_ast::{EqIgnoreSpan, Module, PassError, Script};
 
-/// What a pass rewrites: a module or a script.
+/// A program that a pass rewrites: a module or a script.
 pub trait Whole: Drop {
     ghost tree: { Self → Tree };
 
-    /// A copy, spans included. It refuses where memory runs out.
+    /// Returns a copy, spans included. Fails if memory runs out.
     fn copy(&self) -> Result<Self, AllocError>
         ensures { IfOk result (λ r. tree r ≡ tree self.now) };
 
-    /// Whether the two are equal up to spans.
+    /// Returns whether the two are equal up to spans.
     fn is_same(&self, other: &Self) -> bool
         ensures { IsTrue result ↔ SameBare (tree other.now) (tree self.now) };
 
-    /// What a pass makes of it.
+    /// Returns the result of a pass over it.
     fn rewritten<P: Pass>(self, pass: &mut P, alloc: Global) -> Result<Self, PassError>
         ensures settings { P.settings pass.new ≡ P.settings pass.old }
         ensures answer { IfOk result (λ r. (P.spec (P.settings pass.old)).answers (tree self) (tree r)) }
@@ -63,14 +63,14 @@ impl Whole for Script {
     }
 }
 
-/// What a run made, and whether it differs from what the run was given.
+/// The result of a run, and whether it differs from the run's input.
 #[derive(Drop)]
 pub struct Made<W> {
     pub whole: W,
     pub changed: bool,
 }
 
-/// The answer, or the input where they are equal up to spans.
+/// Returns the result, or the input where they are equal up to spans.
 pub fn settle<W: Whole>(input: W, answer: W) -> Made<W>
     ensures gives { GivesBack (W.tree input) (W.tree answer) (W.tree result.whole) }
     ensures changed { TellsChange result.changed (W.tree input) (W.tree result.whole) }

@@ -25,8 +25,8 @@ use swc_visit::{Children, Kind, Node};
 /// 2^53 - 1: each whole number up to it is one that a double holds (ECMA-262, 21.1.2.8).
 const GREATEST: u64 = 9007199254740991;
 
-/// Whether a valid module is core: its numbers are of at most 2^53 - 1 in size, and no scope
-/// declares a name twice but for `var`s and parameters. Fails where memory is refused.
+/// Returns whether a valid module is core: its numbers are of at most 2^53 - 1 in size, and no scope
+/// declares a name twice but for `var`s and parameters. Fails if memory runs out.
 pub fn is_core(alloc: Global, m: &Module) -> Result<bool, PassError>
     ensures answer { IfOk result (λ b. valid (module_tree m.now) ≡ true → (IsTrue b ↔ IsCore (module_tree m.now))) }
     ensures error { IfErr result (λ e. e ≡ OutOfMemory) }
@@ -35,7 +35,7 @@ pub fn is_core(alloc: Global, m: &Module) -> Result<bool, PassError>
     Ok(answer)
 }
 
-/// The same of a script.
+/// The same for a script.
 pub fn is_script_core(alloc: Global, s: &Script) -> Result<bool, PassError>
     ensures answer { IfOk result (λ b. valid (script_tree s.now) ≡ true → (IsTrue b ↔ IsCore (script_tree s.now))) }
     ensures error { IfErr result (λ e. e ≡ OutOfMemory) }

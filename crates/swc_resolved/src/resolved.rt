@@ -15,10 +15,10 @@ use std::alloc::{AllocError, Global};
 use swc_ast::{Mark, Module, PassError, Script};
 use swc_visit::Node;
 
-/// Whether a module is resolved for a mark: each name is bound by at most one scope, no unresolved
+/// Returns whether a module is resolved for a mark: each name is bound by at most one scope, no unresolved
 /// name is bound, each jump has a target, no body declares the text of a parameter beside a
-/// default, and what is exported by name is bound by the module's own scope. Fails where memory is
-/// refused.
+/// default, and what is exported by name is bound by the module's own scope. Fails if memory runs
+/// out.
 pub fn is_resolved(alloc: Global, m: &Module, unresolved_mark: Mark) -> Result<bool, PassError>
     ensures answer { IfOk result (λ b. IsTrue b ↔ IsResolved (mark_number unresolved_mark) (module_tree m.now)) }
     ensures error { IfErr result (λ e. e ≡ OutOfMemory) }
@@ -27,7 +27,7 @@ pub fn is_resolved(alloc: Global, m: &Module, unresolved_mark: Mark) -> Result<b
     Ok(answer)
 }
 
-/// The same of a script, which has no exports.
+/// The same for a script, which has no exports.
 pub fn is_script_resolved(
     alloc: Global,
     s: &Script,
@@ -40,8 +40,8 @@ pub fn is_script_resolved(
     Ok(answer)
 }
 
-/// Whether a module is valid and resolved for a mark, as `swc_debug::is_valid` and `is_resolved` tell, by one walk. Fails where
-/// memory is refused.
+/// Returns whether a module is valid and resolved for a mark, as `swc_debug::is_valid` and `is_resolved` do, in one walk. Fails if
+/// memory runs out.
 pub fn is_valid_and_resolved(
     alloc: Global,
     m: &Module,
@@ -54,7 +54,7 @@ pub fn is_valid_and_resolved(
     Ok(answer)
 }
 
-/// The same of a script, which has no exports.
+/// The same for a script, which has no exports.
 pub fn is_script_valid_and_resolved(
     alloc: Global,
     s: &Script,

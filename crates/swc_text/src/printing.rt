@@ -10,8 +10,8 @@ use std::alloc::Global;
 use swc_ast::{Module, Script};
 use swc_captures::{Fault, first_fault, first_fault_of_script};
 
-/// The text of a module, each item on a line of its own. `Captured` tells the first name in the order of the text
-/// that another scope than its own would bind; else `Invalid` says that the module isn't valid.
+/// Returns the text of a module, each item on a line of its own. `Captured` has the first name in the order of the text
+/// that a scope other than its own would bind; otherwise `Invalid` is returned if the module isn't valid.
 #[tactic(auto, using(crate::proofs::Refused::uncaptured, crate::proofs::Refused::sound, crate::proofs::Refused::refused))]
 pub fn print(alloc: Global, m: &Module) -> Result<String, PrintError>
     ensures uncaptured { IfOk result (λ _. captured no_scope (module_tree m.now) ≡ []) }
@@ -24,7 +24,7 @@ pub fn print(alloc: Global, m: &Module) -> Result<String, PrintError>
     Ok(swc_printer::print(alloc, m)?)
 }
 
-/// The text of a script, as `print` of a module.
+/// Returns the text of a script, as `print` does for a module.
 #[tactic(auto, using(crate::proofs::Refused::uncaptured, crate::proofs::Refused::sound, crate::proofs::Refused::refused))]
 pub fn print_script(alloc: Global, s: &Script) -> Result<String, PrintError>
     ensures uncaptured { IfOk result (λ _. captured no_scope (script_tree s.now) ≡ []) }

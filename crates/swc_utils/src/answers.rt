@@ -1,6 +1,6 @@
 //! What the answers on an expression are.
 
-/// Whether running an expression may be noticed by more than its value.
+/// Whether the evaluation of an expression can be observed by more than its value.
 #[derive(Clone, Copy, Debug, PartialEq, Eq)]
 pub enum Purity {
     MayBeImpure,

@@ -13,7 +13,7 @@ pub(crate) enum Constant {
     NaN,
 }
 
-/// What tells the names of the host from those of the program.
+/// The context that distinguishes names of the host from those of the program.
 #[derive(Clone, Copy, Debug, PartialEq, Eq)]
 pub struct ExprCtx {
     /// The context of the names that no scope binds; the empty context is one of them too.

@@ -267,8 +267,8 @@ fn put_behind(
     Ok(Expr::Seq(SeqExpr { span, exprs: parts }))
 }
 
-/// A value behind what is to be run of some expressions whose own values are dropped: a sequence, where there is
-/// anything to run. The parts are copies. Refuses where memory is refused.
+/// Returns a value behind the effects of some expressions whose own values are dropped: a sequence, if there are any effects.
+/// The parts are copies. Fails if memory runs out.
 #[tactic(auto, using(crate::proofs::Preserved::preserved))]
 pub fn preserve_effects(
     alloc: Global,

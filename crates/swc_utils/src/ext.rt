@@ -20,7 +20,7 @@ use crate::{globals, purity, texts, types, values};
 use std::alloc::Global;
 use swc_ast::{Expr, PassError};
 
-/// What is known of an expression without running it. Each answer is a function of the expression's tree, and says what
+/// Questions about an expression that are answered without running it. Each answer is a function of the expression's tree, and
 /// holds in every run of it that stays in the core.
 pub trait ExprExt {
     ghost tree: { Self → Tree };

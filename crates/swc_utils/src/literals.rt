@@ -8,7 +8,7 @@ ghost use Rattle.swc_utils.specs.Literals.{is_literal as tree_is_literal, all_pl
 use crate::purity::has_no_exprs;
 use swc_ast::{Expr, ExprOrSpread, KeyValueProp, Prop, PropName, PropOrSpread};
 
-/// Whether an expression is a number, text, truth or null literal, a template without expressions, or an array without
+/// Returns whether an expression is a number, string, boolean or null literal, a template without expressions, or an array without
 /// holes and spreads or an object of `key: value` without computed keys, of such.
 #[cycle(literals)]
 #[tactic(auto, using(swc_ast::proofs::Equations::forms, crate::proofs::LiteralNodes::literal_nodes))]

@@ -8,7 +8,7 @@ use crate::walk::walk_module;
 use std::alloc::AllocError;
 use swc_ast::Module;
 
-/// A module that was walked, and whether it differs from the one that it was made of.
+/// The result of a walk over a copy of a module, and whether it differs from that module.
 #[derive(Drop)]
 pub struct Rewritten {
     pub module: Module,

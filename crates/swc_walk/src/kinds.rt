@@ -7,7 +7,7 @@ ghost use Rattle.swc_walk.specs.Pass.{is_shallow};
 use crate::rules::Place;
 use swc_ast::{Expr, UnaryOp};
 
-/// Whether an expression is a member.
+/// Returns whether an expression is a member.
 #[tactic(auto, using(swc_ast::proofs::Equations::forms))]
 pub fn is_member(e: &Expr) -> bool
     ensures { result ≡ member_tree_is (expr_tree e.now) }
@@ -34,7 +34,7 @@ pub fn is_member(e: &Expr) -> bool
     }
 }
 
-/// Whether an expression is a name.
+/// Returns whether an expression is a name.
 #[tactic(auto, using(swc_ast::proofs::Equations::forms))]
 pub fn is_name(e: &Expr) -> bool
     ensures named { result ≡ name_tree_is (expr_tree e.now) }
@@ -62,7 +62,7 @@ pub fn is_name(e: &Expr) -> bool
     }
 }
 
-/// Whether a callee is a node of its own: no member, and not the name `eval`.
+/// Returns whether a callee is a node of its own: no member, and not the name `eval`.
 #[tactic(auto, using(swc_ast::proofs::Equations::forms))]
 pub fn is_plain(e: &Expr) -> bool
     ensures plain { IsTrue result → IsFalse (part_of_call_is (expr_tree e.now)) }
@@ -90,7 +90,7 @@ pub fn is_plain(e: &Expr) -> bool
     }
 }
 
-/// Whether an operand is a name under `typeof`.
+/// Returns whether an operand is a name under `typeof`.
 pub fn is_named_typeof(op: UnaryOp, e: &Expr) -> bool
     ensures named { result ≡ (is_typeof op && name_tree_is (expr_tree e.now)) }
     ensures shallow { IsTrue result → IsTrue (is_shallow (expr_tree e.now)) }

@@ -11,14 +11,14 @@ ghost use Rattle.swc_visit.specs.Kinds.{kind_label};
 use swc_ast::{ExprOrSpread, Module, Script};
 use swc_visit::{Children, Class, Kind, Node};
 
-/// The weight of a module, what simplification makes smaller; at most `u64::MAX`.
+/// Returns the weight of a module, which each change of a simplifier makes smaller; at most `u64::MAX`.
 pub fn weight(m: &Module) -> u64
     ensures { result ≡ min (tree_weight (module_tree m.now)) (2 ^ 64 - 1) }
 {
     weight_of(Node::Module(m))
 }
 
-/// The weight of a script, what simplification makes smaller; at most `u64::MAX`.
+/// Returns the weight of a script, which each change of a simplifier makes smaller; at most `u64::MAX`.
 pub fn weight_of_script(s: &Script) -> u64
     ensures { result ≡ min (tree_weight (script_tree s.now)) (2 ^ 64 - 1) }
 {
