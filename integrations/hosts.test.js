@@ -1,8 +1,8 @@
 'use strict';
 
 // The small project in `example` is built by each bundler without and with the plugin. Both outputs have to do the same
-// when node runs them. A bundler that isn't installed is skipped. SHAKE is the path of a built `shake`; without it a
-// program that stands for it is run.
+// when node runs them. A bundler that isn't installed is skipped. SHAKE is the path of a built `shake`; without it its
+// replacement is run.
 
 const assert = require('node:assert/strict');
 const fs = require('node:fs');

@@ -10,6 +10,11 @@ const isText = (value) => typeof value === 'string';
 const isFlag = (value) => typeof value === 'boolean';
 const isCount = (value) => Number.isSafeInteger(value) && value >= 0;
 const isTexts = (value) => Array.isArray(value) && value.every(isText);
+const isObject = (value) => typeof value === 'object' && value !== null && !Array.isArray(value);
+// Texts by keys. A key ends at the first `=` on the command line, so none holds one.
+const isKey = (key) => key !== '' && !key.includes('=');
+const isGiven = (value) => isObject(value) && Object.entries(value).every(([key, text]) => isKey(key) && isText(text));
+const isGivenOfModules = (value) => isObject(value) && Object.entries(value).every(([name, given]) => isKey(name) && isGiven(given) && Object.keys(given).every((key) => !key.includes(':')));
 
 const OPTIONS = {
     program: (value) => isText(value) || (isTexts(value) && value.length > 0),
@@ -19,6 +24,10 @@ const OPTIONS = {
     dropImports: isFlag,
     rounds: isCount,
     minCost: isCount,
+    define: isGiven,
+    env: isGiven,
+    typeof: isGiven,
+    const: isGivenOfModules,
     report: (value) => value === false || typeof value === 'function',
 };
 
@@ -49,6 +58,12 @@ function wordsOf(options = {}) {
     if (options.dropImports) words.push('--drop-imports');
     if (options.rounds !== undefined) words.push('--rounds', String(options.rounds));
     if (options.minCost !== undefined) words.push('--min-cost', String(options.minCost));
+    for (const flag of ['define', 'env', 'typeof']) {
+        for (const [key, text] of Object.entries(options[flag] ?? {})) words.push(`--${flag}`, `${key}=${text}`);
+    }
+    for (const [module, given] of Object.entries(options.const ?? {})) {
+        for (const [key, text] of Object.entries(given)) words.push('--const', `${module}:${key}=${text}`);
+    }
     return words;
 }
 

@@ -1,6 +1,7 @@
 'use strict';
 
-// Tests of what the plugins share. They run a program that stands for `shake`, so they need none built.
+// Tests of the code that the plugins share. They run a replacement of `shake`, so they need none built. SHAKE is the path of
+// a built `shake`, for the test that needs a real one.
 
 const assert = require('node:assert/strict');
 const path = require('node:path');
@@ -20,8 +21,20 @@ test('options become words of the command line', () => {
     assert.deepEqual(wordsOf({ keepTop: false, retain: [], rounds: undefined }), ['simplify']);
 });
 
+test('flags become words of the command line', () => {
+    const options = {
+        define: { DEBUG: 'false', 'a.b': '1' }, env: { NODE_ENV: 'production' }, typeof: { window: 'object' },
+        const: { 'build:info': { VERSION: "'1'", default: '{}' } },
+    };
+    assert.deepEqual(wordsOf(options), [
+        'simplify', '--define', 'DEBUG=false', '--define', 'a.b=1', '--env', 'NODE_ENV=production', '--typeof', 'window=object',
+        '--const', "build:info:VERSION='1'", '--const', 'build:info:default={}',
+    ]);
+    assert.deepEqual(wordsOf({ define: {}, const: { m: {} } }), ['simplify']);
+});
+
 test('wrong options are refused', () => {
-    const wrong = [{ keeptop: true }, { retain: 'a' }, { rounds: -1 }, { minCost: 1.5 }, { define: { A: '1' } }, { program: [] }];
+    const wrong = [{ keeptop: true }, { retain: 'a' }, { rounds: -1 }, { minCost: 1.5 }, { define: { A: 1 } }, { env: { 'A=B': '1' } }, { typeof: [] }, { const: { m: '1' } }, { const: { m: { 'a:b': '1' } } }, { program: [] }];
     for (const options of wrong) assert.throws(() => wordsOf(options), { name: 'ShakeError' });
 });
 
@@ -48,9 +61,32 @@ test('a text is simplified, left or refused', async () => {
     assert.deepEqual(await simplify("'\ud800'", { program }), { left: { reason: 'a lone surrogate' } });
     await assert.rejects(simplify('f();\n@', { program }), { message: 'shake: syntax', line: 2, column: 0 });
     await assert.rejects(simplify('MEMORY', { program }), /shake: out of memory/);
+    await assert.rejects(simplify('f();', { program, define: { x: '(' } }), /shake: given x: syntax at 1/);
     await assert.rejects(simplify('CRASH', { program }), /ended by SIGKILL/);
     await assert.rejects(simplify('f();', { program, pass: 'other' }), /does not know an option/);
     await assert.rejects(simplify('f();', { program: path.join(__dirname, 'no-such-program') }), /can't be run/);
+});
+
+test('each option reaches the program', { skip: process.env.SHAKE === undefined ? 'SHAKE is not set' : false }, async () => {
+    const rows = [
+        ['let a = 1 + 2;', { pass: 'expr' }, 'let a = 3;\n'],
+        ['let a = 1;', {}, ''],
+        ['let a = 1;', { keepTop: true }, 'let a = 1;\n'],
+        ['let a = 1, b = 2, c = 3;', { retain: ['a', 'c'] }, 'let a = 1, c = 3;\n'],
+        ["import {a} from 'm';", {}, "import 'm';\n"],
+        ["import {a} from 'm';", { dropImports: true }, ''],
+        ['f(1 + 2);', { rounds: 0 }, 'f(1 + 2);\n'],
+        ['f([1]);', { pass: 'json' }, 'f([1]);\n'],
+        ['f([1]);', { pass: 'json', minCost: 3 }, "f(JSON.parse('[1]'));\n"],
+        ['const a = 1; f(a);', { pass: 'const' }, 'const a = 1;\nf(1);\n'],
+        ['f(A, b.c);', { define: { A: '1', 'b.c': '2' } }, 'f(1, 2);\n'],
+        ['f(process.env.A);', { env: { A: 'x' } }, "f('x');\n"],
+        ['f(typeof a);', { typeof: { a: 'object' } }, "f('object');\n"],
+        ["import {A as b} from 'm:n'; f(b);", { const: { 'm:n': { A: '1' } } }, 'f(1);\n'],
+    ];
+    for (const [text, options, code] of rows) {
+        assert.deepEqual(await simplify(text, { program: process.env.SHAKE, ...options }), { code }, text);
+    }
 });
 
 test('a program that stops reading is no fault of the plugin', async () => {

@@ -1,7 +1,7 @@
 'use strict';
 
-// Runs the examples of docs/USING.md with the program that SHAKE names. Of a section, a block `js NAME` is written to a
-// file, a block `sh` is run, and the block `text` behind it is what it has to write.
+// Runs the examples of docs/USING.md with the program that SHAKE names. Of a section, a block with a name is written to a
+// file, a block `sh` without one is run, and the block `text` behind it is what it has to write.
 
 const assert = require('node:assert/strict');
 const { spawnSync } = require('node:child_process');
@@ -38,7 +38,9 @@ function runScript(folder, script) {
 function missing(section) {
     if (process.env.SHAKE === undefined) return 'SHAKE is not set';
     if (/require\('rollup'\)/.test(section) && host('rollup') === null) return 'rollup is not installed';
-    if (/^esbuild/m.test(section) && spawnSync('esbuild', ['--version']).error) return 'esbuild is not installed';
+    for (const tool of ['esbuild', 'make']) {
+        if (new RegExp(`^${tool} `, 'm').test(section) && spawnSync(tool, ['--version']).error) return `${tool} is not installed`;
+    }
     return false;
 }
 
@@ -50,7 +52,7 @@ for (const section of document.split(/^## /m)) {
         const folder = prepared(t);
         let last;
         for (const { kind, name, text } of blocks) {
-            if (kind === 'js' && name !== '') {
+            if (name !== '') {
                 const file = path.join(folder, name);
                 fs.mkdirSync(path.dirname(file), { recursive: true });
                 fs.writeFileSync(file, text);

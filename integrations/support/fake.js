@@ -1,8 +1,8 @@
 #!/usr/bin/env node
 'use strict';
 
-// Stands for `shake` in the tests of the plugins: it takes the same words, ends with the same statuses and writes the
-// same lines, by words in the text. What it simplifies is `1 + 2` and `if (0) f(..);`.
+// Replaces `shake` in the tests of the plugins: it has the same arguments, ends with the same statuses and writes the
+// same lines, by words in the text. It simplifies only `1 + 2` and `if (0) f(..);`.
 
 const fs = require('node:fs');
 
@@ -38,6 +38,8 @@ const FAULTS = [
 
 const words = process.argv.slice(2);
 if (!understands(words)) refuse(2, 'arguments');
+// A value that isn't read.
+for (const word of words) if (word.endsWith('=(')) refuse(1, `given ${word.slice(0, -2)}: syntax at 1`);
 const text = fs.readFileSync(0, 'utf8');
 if (text.includes('CRASH')) process.kill(process.pid, 'SIGKILL');
 for (const [pattern, said] of FAULTS) {
