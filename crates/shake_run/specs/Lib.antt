@@ -1,4 +1,3 @@
 pub mod Flagged
 pub mod Passes
 pub mod Status
-pub mod Done

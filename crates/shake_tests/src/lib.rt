@@ -2,8 +2,6 @@
 #![tactic(auto)]
 
 #[cfg(test)]
-mod deep;
-#[cfg(test)]
 mod flags;
 #[cfg(test)]
 mod runs;

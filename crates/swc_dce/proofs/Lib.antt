@@ -3,4 +3,3 @@ pub mod Made
 pub mod Entering
 pub mod Resting
 pub mod Copied
-pub mod Rounds

@@ -1,3 +1,2 @@
 pub mod Shaken
 pub mod Configured
-pub mod Peeling

@@ -18,7 +18,7 @@ use swc_walk::{walk_module, walk_script};
 /// A pass that removes declarations of names that nothing uses, and assignments to names that nothing reads, in one walk.
 #[derive(Drop)]
 pub struct TreeShaker {
-    pub(crate) config: Config,
+    config: Config,
     unresolved_mark: Mark,
     changed: bool,
 }

@@ -1,6 +1,4 @@
 pub mod Exact
-pub mod Rows
+pub mod Rounds
 pub mod Settling
-pub mod Peeled
-pub mod Turns
 pub mod Runs

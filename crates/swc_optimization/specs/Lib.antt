@@ -1,4 +1,3 @@
 pub mod Simplifier
 pub mod Laws
 pub mod RoundLaws
-pub mod Turns

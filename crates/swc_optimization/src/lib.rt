@@ -7,18 +7,14 @@ ghost use Rattle.swc_optimization.specs.Laws.{RoundIsLawful, RowsAreRounds, Reac
 pub mod ast;
 mod config;
 mod passes;
-mod rounds;
 pub mod simplify;
 pub mod utils;
 
 pub use simplify::{Config, Simplifier, simplifier};
-pub use swc_const_modules as const_modules;
 pub use swc_const_modules::{ConstModules, const_modules};
 pub use swc_debug as debug;
 pub use swc_expr_map::GlobalExprMap;
-pub use swc_inline_globals as inline_globals;
 pub use swc_inline_globals::{InlineGlobals, inline_globals, inline_globals2};
-pub use swc_json_parse as json_parse;
 pub use swc_json_parse::{JsonParse, json_parse};
 pub use swc_pass as pass;
 pub use swc_text as text;

@@ -1,5 +1,5 @@
-//! The simplifier, as rounds of its passes.
-ghost use Rattle.std.specs.Prelude.{◌≡◌, ◌<◌, ◌≤◌, ◌+◌, ◌↔◌, ℕ, true, false, if◌then◌else◌, IfOk, IfErr, IsTrue, OnErr};
+//! The passes in a row, again and again.
+ghost use Rattle.std.specs.Prelude.{◌≡◌, ◌<◌, ◌≤◌, ◌+◌, ℕ, true, false, IfOk, IfErr, OnErr};
 ghost use Rattle.std.proofs.Common.{ap₂};
 ghost use Rattle.swc_ast.specs.Core.{IsCore};
 ghost use Rattle.swc_ast.specs.Marks.{mark_number};
@@ -17,36 +17,34 @@ ghost use Rattle.swc_optimization.specs.Simplifier.{round_spec, rounds_spec, Set
 ghost use Rattle.swc_optimization.specs.RoundLaws.{rounds_lawful};
 
 use crate::config::Config;
-use crate::rounds::{Passes, Peel, run_rounds};
 use std::alloc::Global;
 use std::marker::Model;
 use swc_ast::{Mark, Module, PassError, Script};
-use swc_pass::{Pass, Repeated};
+use swc_branch::{Remover, dead_branch_remover};
+use swc_dce::{TreeShaker, dce};
+use swc_expr::{SimplifyExpr, expr_simplifier};
+use swc_pass::{Chain, Pass, Repeat, Repeated};
+
+type Passes = Repeat<Chain<Chain<SimplifyExpr, Remover>, TreeShaker>>;
 
 /// Runs the expression simplifier, the remover of dead branches and the tree shaker, in this order, until a round of them
 /// changes nothing or the limit is reached.
 #[derive(Drop)]
 pub struct Simplifier {
     passes: Passes,
-    max_rounds: usize,
-    rounds: usize,
-    reached: bool,
-    changed: bool,
 }
 
 impl Model for Simplifier {
+    ghost use Rattle.std.specs.Prelude.{◌≡◌};
     ghost use Rattle.swc_optimization.specs.Simplifier.{Simplifying};
 
     ghost Value = { Simplifying };
 
-    ghost view = { λ s. record { told = s.passes; most = s.max_rounds; rounds = s.rounds; reached = s.reached; changed = s.changed } };
-}
+    ghost view = { λ s. record { told = (⟦<Passes as Pass>⟧.settings s.passes).0.1; most = (⟦<Passes as Pass>⟧.settings s.passes).1; rounds = ⟦<Passes as Repeated>⟧.rounds_run s.passes; reached = ⟦<Passes as Repeated>⟧.is_reached s.passes; changed = ⟦<Passes as Repeated>⟧.is_changed s.passes } };
 
-/// Returns whether one of the rounds changed something.
-fn is_some_changing(rounds: usize, reached: bool) -> bool
-    ensures { IsTrue result ↔ ((if reached then 1 else 0) < rounds) }
-{
-    if reached { rounds > 1 } else { rounds > 0 }
+    ghost use Rattle.swc_optimization.specs.Laws.{HasOneMark};
+
+    ghost invariant = { λ s. HasOneMark (⟦<Passes as Pass>⟧.settings s.passes).0 };
 }
 
 impl Simplifier {
@@ -57,13 +55,12 @@ impl Simplifier {
         ensures reached { result.reached ≡ false }
         ensures changed { result.changed ≡ false }
     {
-        let max_rounds = config.max_rounds;
+        let expressions = expr_simplifier(unresolved_mark, config.expr);
+        let branches = dead_branch_remover(unresolved_mark);
+        let names = dce(config.dce, unresolved_mark);
+        let round = Chain::new(Chain::new(expressions, branches), names);
         Simplifier {
-            passes: Passes::new(unresolved_mark, config),
-            max_rounds,
-            rounds: 0,
-            reached: false,
-            changed: false,
+            passes: Repeat::new(round, config.max_rounds),
         }
     }
 
@@ -71,21 +68,21 @@ impl Simplifier {
     pub fn rounds(&self) -> usize
         ensures { result ≡ self.now.rounds }
     {
-        self.rounds
+        self.passes.rounds()
     }
 
     /// Returns whether the last round of the last run changed nothing: false before the first run and after an error.
     pub fn reached(&self) -> bool
         ensures { result ≡ self.now.reached }
     {
-        self.reached
+        self.passes.reached()
     }
 
     /// Returns whether the last run changed more than spans: false before the first run and after an error.
     pub fn changed(&self) -> bool
         ensures { result ≡ self.now.changed }
     {
-        self.changed
+        self.passes.changed()
     }
 
     /// Runs rounds over a copy of a module and returns the result. Fails if memory runs out; the simplifier can run again after that.
@@ -105,9 +102,7 @@ impl Simplifier {
         ensures refused { OnErr result ((self.new.changed ≡ false) × (self.new.reached ≡ false) × (self.new.rounds ≡ 0)) }
         ensures memory { IfErr result (λ e. e ≡ OutOfMemory) }
     {
-        self.reset();
-        let copy = module.clone()?;
-        self.run_whole(alloc, copy)
+        self.passes.run(alloc, module)
     }
 
     /// Runs rounds over a copy of a script and returns the result. Fails if memory runs out; the simplifier can run again after that.
@@ -127,9 +122,7 @@ impl Simplifier {
         ensures refused { OnErr result ((self.new.changed ≡ false) × (self.new.reached ≡ false) × (self.new.rounds ≡ 0)) }
         ensures memory { IfErr result (λ e. e ≡ OutOfMemory) }
     {
-        self.reset();
-        let copy = script.clone()?;
-        self.run_whole(alloc, copy)
+        self.passes.run_script(alloc, script)
     }
 
     /// Runs rounds over a module and returns the result. Fails if memory runs out; the simplifier can run again after that.
@@ -149,7 +142,7 @@ impl Simplifier {
         ensures refused { OnErr result ((self.new.changed ≡ false) × (self.new.reached ≡ false) × (self.new.rounds ≡ 0)) }
         ensures memory { IfErr result (λ e. e ≡ OutOfMemory) }
     {
-        self.run_whole(alloc, module)
+        self.passes.rewrite(alloc, module)
     }
 
     /// Runs rounds over a script and returns the result. Fails if memory runs out; the simplifier can run again after that.
@@ -169,44 +162,7 @@ impl Simplifier {
         ensures refused { OnErr result ((self.new.changed ≡ false) × (self.new.reached ≡ false) × (self.new.rounds ≡ 0)) }
         ensures memory { IfErr result (λ e. e ≡ OutOfMemory) }
     {
-        self.run_whole(alloc, script)
-    }
-
-    /// Runs rounds over a module or a script, and keeps how many they were and what they told.
-    fn run_passes<W: Peel>(&mut self, alloc: Global, whole: W) -> Result<W, PassError>
-        ensures told { self.new.told ≡ self.old.told }
-        ensures most { self.new.most ≡ self.old.most }
-        ensures changed { IfOk result (λ r. IsTrue self.new.changed ↔ ((if self.new.reached then 1 else 0) < self.new.rounds)) }
-        ensures rounds { IfOk result (λ r. Rounded (round_spec self.old.told) self.old.most (W.tree whole) self.new.rounds self.new.reached (W.tree r)) }
-        ensures refused { OnErr result ((self.new.changed ≡ false) × (self.new.reached ≡ false) × (self.new.rounds ≡ 0)) }
-        ensures memory { IfErr result (λ e. e ≡ OutOfMemory) }
-    {
-        self.reset();
-        let ran = run_rounds(&mut self.passes, alloc, self.max_rounds, whole)?;
-        self.rounds = ran.rounds;
-        self.reached = ran.reached;
-        self.changed = is_some_changing(ran.rounds, ran.reached);
-        Ok(ran.whole)
-    }
-
-    /// Runs rounds over a module or a script and returns the result. Fails if memory runs out; the simplifier can run again after that.
-    fn run_whole<W: Peel>(&mut self, alloc: Global, whole: W) -> Result<W, PassError>
-        ensures told { self.new.told ≡ self.old.told }
-        ensures most { self.new.most ≡ self.old.most }
-        ensures same { IfOk result (λ r. IsResolved (mark_number self.old.told.mark) (W.tree whole) → IsCore (W.tree whole) → Same (mark_number self.old.told.mark) self.old.told.keeps_imports (W.tree whole) (W.tree r)) }
-        ensures resolved { IfOk result (λ r. IsResolved (mark_number self.old.told.mark) (W.tree whole) → IsResolved (mark_number self.old.told.mark) (W.tree r)) }
-        ensures valid { IfOk result (λ r. valid (W.tree whole) ≡ true → valid (W.tree r) ≡ true) }
-        ensures core { IfOk result (λ r. IsCore (W.tree whole) → IsCore (W.tree r)) }
-        ensures changed { IfOk result (λ r. TellsChange self.new.changed (W.tree whole) (W.tree r)) }
-        ensures rounds { IfOk result (λ r. Rounded (round_spec self.old.told) self.old.most (W.tree whole) self.new.rounds self.new.reached (W.tree r)) }
-        ensures comes_to_end { IfOk result (λ r. weight (W.tree whole) < self.old.most → self.new.reached ≡ true) }
-        ensures few_rounds { IfOk result (λ r. self.new.rounds ≤ weight (W.tree whole) + 1) }
-        ensures settled { IfOk result (λ r. self.new.reached ≡ true → valid (W.tree r) ≡ true → Settled self.old.told (W.tree r)) }
-        ensures refused { OnErr result ((self.new.changed ≡ false) × (self.new.reached ≡ false) × (self.new.rounds ≡ 0)) }
-        ensures memory { IfErr result (λ e. e ≡ OutOfMemory) }
-    {
-        let answer = self.run_passes(alloc, whole)?;
-        Ok(answer)
+        self.passes.rewrite_script(alloc, script)
     }
 }
 
@@ -220,13 +176,11 @@ impl Repeated for Simplifier {
     ghost resets_to = { λ s r. (r.told ≡ s.told) × (r.most ≡ s.most) };
 
     fn changed(&self) -> bool {
-        self.changed
+        self.passes.changed()
     }
 
     fn reset(&mut self) {
-        self.rounds = 0;
-        self.reached = false;
-        self.changed = false;
+        self.passes.reset();
     }
 }
 

@@ -7,7 +7,6 @@ pub mod Binding
 pub mod Specifiers
 pub mod Beside
 pub mod Good
-pub mod Placed
 pub mod Verdict
 pub mod Once
-pub mod Lists
+pub mod Fits

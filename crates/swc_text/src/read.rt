@@ -1,7 +1,6 @@
 //! Reading a text.
 ghost use Rattle.std.specs.Prelude.{◌≡◌, ◌≢◌, ◌≤◌, ◌^◌, ◌↔◌, true, length, IfOk, IfErr};
 ghost use Rattle.std.specs.Result.{IsErrOf};
-ghost use Rattle.swc_ast.specs.Core.{IsCore};
 ghost use Rattle.swc_ast.specs.Marks.{mark_number};
 ghost use Rattle.swc_ast.specs.Modules.{module_tree, script_tree};
 ghost use Rattle.swc_ast.specs.Resolved.{IsResolved};
@@ -12,7 +11,7 @@ use crate::error::{ReadError, told};
 use std::alloc::Global;
 use swc_ast::{Expr, Mark, Module, Script};
 use swc_parser::{parse_expr, parse_module, parse_script, parse_spanless_expr};
-use swc_resolved::{is_core_and_resolved, is_script_core_and_resolved};
+use swc_resolved::{is_script_valid_and_resolved, is_valid_and_resolved};
 
 /// 2^31, in bytes
 const TOO_LONG: usize = 0x8000_0000;
@@ -25,7 +24,6 @@ const TOO_LONG: usize = 0x8000_0000;
 pub fn read_module(alloc: Global, text: &str, unresolved_mark: Mark) -> Result<Module, ReadError>
     ensures valid { IfOk result (λ m. valid (module_tree m) ≡ true) }
     ensures resolved { IfOk result (λ m. IsResolved (mark_number unresolved_mark) (module_tree m)) }
-    ensures core { IfOk result (λ m. IsCore (module_tree m)) }
     ensures too_long { IsErrOf result ReadError.TooLong ↔ 2 ^ 31 ≤ length text.now }
 {
     if text.len() >= TOO_LONG {
@@ -37,14 +35,13 @@ pub fn read_module(alloc: Global, text: &str, unresolved_mark: Mark) -> Result<M
     }
 }
 
-/// A module that was parsed: it is valid, resolved and core, and the tests let that be known.
+/// A module that was parsed: it is valid and resolved, and the tests let that be known.
 fn checked_module(alloc: Global, read: Module, unresolved_mark: Mark) -> Result<Module, ReadError>
     ensures valid { IfOk result (λ m. valid (module_tree m) ≡ true) }
     ensures resolved { IfOk result (λ m. IsResolved (mark_number unresolved_mark) (module_tree m)) }
-    ensures core { IfOk result (λ m. IsCore (module_tree m)) }
     ensures refused { IfErr result (λ e. e ≢ TooLong) }
 {
-    let is_good = is_core_and_resolved(alloc, &read, unresolved_mark)?;
+    let is_good = is_valid_and_resolved(alloc, &read, unresolved_mark)?;
     if is_good {
         Ok(read)
     } else {
@@ -57,7 +54,6 @@ fn checked_module(alloc: Global, read: Module, unresolved_mark: Mark) -> Result<
 pub fn read_script(alloc: Global, text: &str, unresolved_mark: Mark) -> Result<Script, ReadError>
     ensures valid { IfOk result (λ s. valid (script_tree s) ≡ true) }
     ensures resolved { IfOk result (λ s. IsResolved (mark_number unresolved_mark) (script_tree s)) }
-    ensures core { IfOk result (λ s. IsCore (script_tree s)) }
     ensures too_long { IsErrOf result ReadError.TooLong ↔ 2 ^ 31 ≤ length text.now }
 {
     if text.len() >= TOO_LONG {
@@ -73,10 +69,9 @@ pub fn read_script(alloc: Global, text: &str, unresolved_mark: Mark) -> Result<S
 fn checked_script(alloc: Global, read: Script, unresolved_mark: Mark) -> Result<Script, ReadError>
     ensures valid { IfOk result (λ s. valid (script_tree s) ≡ true) }
     ensures resolved { IfOk result (λ s. IsResolved (mark_number unresolved_mark) (script_tree s)) }
-    ensures core { IfOk result (λ s. IsCore (script_tree s)) }
     ensures refused { IfErr result (λ e. e ≢ TooLong) }
 {
-    let is_good = is_script_core_and_resolved(alloc, &read, unresolved_mark)?;
+    let is_good = is_script_valid_and_resolved(alloc, &read, unresolved_mark)?;
     if is_good {
         Ok(read)
     } else {

@@ -20,23 +20,23 @@ walk-walk_below-requires t c = (let h = children_fall (node_tree c.args.n) (chil
 pub walk-returns-then-not-branch : goal.walk-returns-then-not-branch
 walk-returns-then-not-branch t c =
     let l = kind_label c.open-opened.result.kind in let cs = children_forest c.open-opened.result.children in let g = targets c.args.g.now in
-    own_fails c.args.core_too g (node_tree c.args.n) l cs (is_taken c.args.self.now) (is_taken c.args.self.now) (λ x. scopes x (node_tree c.args.n)) c.open-opened.ensures.0 c.open-opened.ensures.1 (sym c.in_ok-is_own_good.ensures ∙ c.if-not-branch.true)
+    own_fails c.args.valid_too g (node_tree c.args.n) l cs (is_taken c.args.self.now) (is_taken c.args.self.now) (λ x. scopes x (node_tree c.args.n)) c.open-opened.ensures.0 c.open-opened.ensures.1 (sym c.in_ok-is_own_good.ensures ∙ c.if-not-branch.true)
 
 pub walk-returns : goal.walk-returns
 walk-returns t c =
     let l = kind_label c.open-opened.result.kind in let cs = children_forest c.open-opened.result.children in let g = targets c.args.g.now in
-    let own : own_good c.args.core_too g l cs ≡ true = sym c.in_ok-is_own_good.ensures ∙ c.if-not-branch.false in
+    let own : own_good c.args.valid_too g l cs ≡ true = sym c.in_ok-is_own_good.ensures ∙ c.if-not-branch.false in
     let first = subst (λ b. Binds b (is_taken c.args.self.now) (is_taken c.bind_own.new.self) (λ x. own_scopes x l cs)) c.if-not-branch-2.false c.in_ok-bind_own.ensures in
-    last_below c.walk_below.result c.args.core_too g (node_tree c.args.n) l cs (is_taken c.args.self.now) (is_taken c.bind_own.new.self) (is_taken c.walk_below.new.self) c.open-opened.ensures.0 c.open-opened.ensures.1 own first c.walk_below.ensures
+    last_below c.walk_below.result c.args.valid_too g (node_tree c.args.n) l cs (is_taken c.args.self.now) (is_taken c.bind_own.new.self) (is_taken c.walk_below.new.self) c.open-opened.ensures.0 c.open-opened.ensures.1 own first c.walk_below.ensures
 
 pub walk_below-returns-in-empty : goal.walk_below-returns-in-empty
 walk_below-returns-in-empty t c =
     let k = c.args.kind in let g = targets c.args.g.now in let cs = children_forest c.args.children in let d = c.in_default in
     let below = plain_below k g d.not-Labeled d.not-While d.not-DoWhile d.not-For d.not-Switch d.not-Fn d.not-Arrow d.not-Method d.not-FnDecl d.not-ExportDefaultFn in
-    subst (λ h. IfOk c.walk_all.result (λ b. Passes b (good_all c.args.core_too h cs) (is_taken c.args.self.now) (is_taken c.walk_all.new.self) (λ x. scopes_all x cs))) (plain_already g (no_texts (λ t. t.now) c.args.g.now.own.now c.in-empty.len_below) ∙ below) c.walk_all.ensures
+    subst (λ h. IfOk c.walk_all.result (λ b. Passes b (good_all c.args.valid_too h cs) (is_taken c.args.self.now) (is_taken c.walk_all.new.self) (λ x. scopes_all x cs))) (plain_already g (no_texts (λ t. t.now) c.args.g.now.own.now c.in-empty.len_below) ∙ below) c.walk_all.ensures
 
 pub walk_inside-returns-in_default : goal.walk_inside-returns-in_default
 walk_inside-returns-in_default t c =
     let k = c.args.kind in let g = targets c.args.g.now in let cs = children_forest c.args.children in let d = c.in_default in
     let below = plain_below k g d.not-Labeled d.not-While d.not-DoWhile d.not-For d.not-Switch d.not-Fn d.not-Arrow d.not-Method d.not-FnDecl d.not-ExportDefaultFn in
-    subst (λ h. IfOk c.walk_all-in_default.result (λ b. Passes b (good_all c.args.core_too h cs) (is_taken c.args.self.now) (is_taken c.walk_all-in_default.new.self) (λ x. scopes_all x cs))) below c.walk_all-in_default.ensures
+    subst (λ h. IfOk c.walk_all-in_default.result (λ b. Passes b (good_all c.args.valid_too h cs) (is_taken c.args.self.now) (is_taken c.walk_all-in_default.new.self) (λ x. scopes_all x cs))) below c.walk_all-in_default.ensures

@@ -1,4 +1,0 @@
-pub mod Sizes
-pub mod Names
-pub mod Inside
-pub mod Cases

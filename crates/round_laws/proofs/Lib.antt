@@ -1,4 +1,0 @@
-pub mod Sublists
-pub mod Tidy
-pub mod Shaped
-pub mod Rounds
