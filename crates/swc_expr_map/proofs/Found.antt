@@ -1,82 +1,134 @@
--- What is found in a list of entries, and what an edit does to it.
-use Rattle.std.proofs.Common.{◌≡◌, ℕ, zero, suc, ◌+◌, ◌<◌, ◌≤◌, Bool, true, false, not, cond, if◌then◌else◌, List, [], ◌∷◌, length, get_or, set, Option, Some, None, refl, sym, ap, ◌∙◌, arith}
-use mathlib.Core.Bool.{true≢false, false≢true}
-use Rattle.std.specs.List.{insert, prefix_len}
+-- What is found in entries in front of one and behind it.
+use Rattle.std.proofs.Common.{◌≡◌, ℕ, suc, ◌+◌, ◌<◌, ltb, Bool, true, false, not, cond, if◌then◌else◌, List, [], ◌∷◌, ◌++◌, length, Option, Some, None, option_map, refl, sym, ap, ◌∙◌, arith}
+use Rattle.std.proofs.lemmas.Bool.{lt-ltb, le-ltb, ltb-true, ltb-false}
+use Rattle.std.specs.List.{prefix_len}
+use Rattle.std.specs.Option.{unwrap_or}
 use Rattle.std.specs.Ordering.{is_eq}
-use Rattle.std.specs.Cmp.{Equal-is, alike_right}
-use Rattle.std.specs.declared.cmp.Ordering.TheVariants.{Equal}
-use Rattle.swc_ast.specs.Tree.{Tree}
+use Rattle.std.specs.declared.cmp.Ordering.TheVariants.{Less, Equal, Greater}
 use Rattle.swc_expr_map.specs.declared.entry.Entry.{Entry}
-use Rattle.swc_expr_map.specs.Order.{key_cmp, same_key}
+use Rattle.swc_ast.specs.Tree.{Tree}
+use Rattle.swc_expr_map.specs.Order.{key_cmp}
 use Rattle.swc_expr_map.specs.Entries.{key_of, value_of, has_key, found, number_of}
-use Rattle.swc_expr_map.proofs.Ordered.{keys_ordered}
+use Rattle.swc_expr_map.proofs.Rising.{AllAbove, AllBelow, Round, above_more, below_more, below_same}
 
--- no entry in front of a place has the key
-abbrev pub NoneBefore : List Entry → Tree → ℕ → Type 0
-NoneBefore es t i = (j : ℕ) (d : Entry) → j < i → has_key t (get_or es j d) ≡ false
+-- no entry has the key
+abbrev pub NoneHas : Tree → List Entry → Type 0
+NoneHas t [] = Unit {0}
+NoneHas t (e ∷ es) = (has_key t e ≡ false) × NoneHas t es
 
-behind_first : (e : Entry) (es : List Entry) (t : Tree) (i : ℕ) → NoneBefore (e ∷ es) t (suc i) → NoneBefore es t i
-behind_first e es t i none j d h = none (suc j) d (omega (arith, h))
+pub none_above : (t : Tree) (es : List Entry) → AllAbove t es → NoneHas t es
+none_above t [] a = tt
+none_above t (e ∷ es) a = (ap is_eq a.0, none_above t es a.1)
 
--- a key that no entry has
+pub none_below : (t : Tree) (es : List Entry) → AllBelow t es → NoneHas t es
+none_below t [] b = tt
+none_below t (e ∷ es) b = (ap is_eq b.0, none_below t es b.1)
 
-pub found_nowhere : (es : List Entry) (t : Tree) → NoneBefore es t (length es) → found t es ≡ None
-found_nowhere [] t none = refl
-found_nowhere (e ∷ es) t none = ap (λ b. if b then Some (value_of e) else found t es) (none 0 e (omega arith)) ∙ found_nowhere es t (behind_first e es t (length es) none)
+-- a value
 
-before : (es : List Entry) (t : Tree) (i : ℕ) → i ≤ length es → NoneBefore es t i → ((d : Entry) → i < length es → has_key t (get_or es i d) ≡ true) → prefix_len (λ e. not (has_key t e)) es ≡ i
-before [] t i le none there = omega (arith, le)
-before (e ∷ es) t zero le none there = ap (λ b. cond (not b) (1 + prefix_len (λ e. not (has_key t e)) es) 0) (there e (omega arith))
-before (e ∷ es) t (suc i) le none there =
-    ap (λ b. cond (not b) (1 + prefix_len (λ e. not (has_key t e)) es) 0) (none 0 e (omega arith))
-    ∙ ap (λ n. 1 + n) (before es t i (omega (arith, le)) (behind_first e es t i none) (λ d h. there d (omega (arith, h))))
-    ∙ omega arith
+pub found_nowhere : (t : Tree) (es : List Entry) → NoneHas t es → found t es ≡ None
+found_nowhere t [] n = refl
+found_nowhere t (e ∷ es) n = ap (λ b. if b then Some (value_of e) else found t es) n.0 ∙ found_nowhere t es n.1
 
-pub number_nowhere : (es : List Entry) (t : Tree) → NoneBefore es t (length es) → number_of t es ≡ None
-number_nowhere es t none = grind (arith, before es t (length es) (omega arith) none (λ d h. absurd (omega (arith, h))))
+found_in_front : (t : Tree) (l m : List Entry) → NoneHas t m → found t (l ++ m) ≡ found t l
+found_in_front t [] m n = found_nowhere t m n
+found_in_front t (e ∷ l) m n = ap (λ o. if has_key t e then Some (value_of e) else o) (found_in_front t l m n)
 
--- a key that the entry at a place is the first to have
+found_behind : (t : Tree) (l m : List Entry) → NoneHas t l → found t (l ++ m) ≡ found t m
+found_behind t [] m n = refl
+found_behind t (e ∷ l) m n = ap (λ b. if b then Some (value_of e) else found t (l ++ m)) n.0 ∙ found_behind t l m n.1
 
-pub found_there : (es : List Entry) (t : Tree) (i : ℕ) (d : Entry) → i < length es → has_key t (get_or es i d) ≡ true → NoneBefore es t i → found t es ≡ Some (value_of (get_or es i d))
-found_there [] t i d h there none = absurd (omega (arith, h))
-found_there (e ∷ es) t zero d h there none = ap (λ b. if b then Some (value_of e) else found t es) there
-found_there (e ∷ es) t (suc i) d h there none = ap (λ b. if b then Some (value_of e) else found t es) (none 0 e (omega arith)) ∙ found_there es t i d (omega (arith, h)) there (behind_first e es t i none)
+-- a number
 
-pub number_there : (es : List Entry) (t : Tree) (i : ℕ) → i < length es → ((d : Entry) → has_key t (get_or es i d) ≡ true) → NoneBefore es t i → number_of t es ≡ Some i
-number_there es t i h there none = grind (arith, h, before es t i (omega (arith, h)) none (λ d q. there d))
+mapped : (b : Bool) (n : ℕ) → cond b (Some (1 + n)) None ≡ option_map suc (cond b (Some n) None)
+mapped true n = ap Some (omega arith)
+mapped false n = refl
 
--- edits
+less_behind : (p l : ℕ) → ltb (1 + p) (suc l) ≡ ltb p l
+less_behind p l = elim (ltb p l) as (λ b. ltb p l ≡ b → ltb (1 + p) (suc l) ≡ b) [
+  | true ↦ λ e. lt-ltb (1 + p) (suc l) (omega (arith, ltb-true p l e))
+  | false ↦ λ e. le-ltb (1 + p) (suc l) (omega (arith, ltb-false p l e))
+] refl
 
--- a key is the one that is put
-alike : (q t u : Tree) → same_key q t ≡ true → same_key q u ≡ same_key t u
-alike q t u e = ap is_eq (keys_ordered.congr q t u ((Equal-is (key_cmp q t)).0 e))
+number_first : (b : Bool) (p l : ℕ) → cond (ltb (cond (not b) (1 + p) 0) (suc l)) (Some (cond (not b) (1 + p) 0)) None ≡ cond b (Some 0) (option_map suc (cond (ltb p l) (Some p) None))
+number_first true p l = ap (λ b. cond b (Some 0) None) (lt-ltb 0 (suc l) (omega arith))
+number_first false p l = ap (λ b. cond b (Some (1 + p)) None) (less_behind p l) ∙ mapped (ltb p l) p
 
-past : (a b : Bool) (x y z : Option Tree) → (a ≡ true → b ≡ false) → (if b then x else (if a then y else z)) ≡ (if a then y else (if b then x else z))
-past true true x y z h = absurd (true≢false (h refl))
-past true false x y z h = refl
-past false true x y z h = refl
-past false false x y z h = refl
+number_step : (t : Tree) (e : Entry) (es : List Entry) → number_of t (e ∷ es) ≡ cond (has_key t e) (Some 0) (option_map suc (number_of t es))
+number_step t e es = number_first (has_key t e) (prefix_len (λ d. not (has_key t d)) es) (length es)
 
--- what is found once a value was put at a key
-abbrev pub Puts : List Entry → List Entry → Tree → Tree → Type 0
-Puts old new t v = (q : Tree) → found q new ≡ (if same_key q t then Some v else found q old)
+number_nowhere : (t : Tree) (es : List Entry) → NoneHas t es → number_of t es ≡ None
+number_nowhere t [] n = refl
+number_nowhere t (e ∷ es) n = number_step t e es ∙ ap (λ b. cond b (Some 0) (option_map suc (number_of t es))) n.0 ∙ ap (option_map suc) (number_nowhere t es n.1)
 
-behind : (e : Entry) (old new : List Entry) (t v : Tree) → has_key t e ≡ false → Puts old new t v → Puts (e ∷ old) (e ∷ new) t v
-behind e old new t v other puts q = ap (λ o. if has_key q e then Some (value_of e) else o) (puts q) ∙ past (same_key q t) (has_key q e) (Some (value_of e)) (Some v) (found q old) (λ same. alike q t (key_of e) same ∙ other)
+number_in_front : (t : Tree) (l m : List Entry) → NoneHas t m → number_of t (l ++ m) ≡ number_of t l
+number_in_front t [] m n = number_nowhere t m n
+number_in_front t (e ∷ l) m n = number_step t e (l ++ m) ∙ ap (λ o. cond (has_key t e) (Some 0) (option_map suc o)) (number_in_front t l m n) ∙ sym (number_step t e l)
 
-pub put_between : (es : List Entry) (i : ℕ) (e : Entry) → NoneBefore es (key_of e) i → Puts es (insert es i e) (key_of e) (value_of e)
-put_between es zero e none q = refl
-put_between [] (suc i) e none q = refl
-put_between (d ∷ es) (suc i) e none q = behind d es (insert es i e) (key_of e) (value_of e) (none 0 d (omega arith)) (put_between es i e (behind_first d es (key_of e) i none)) q
+behind : (o : Option ℕ) (n : ℕ) → option_map suc (option_map (λ k. n + k) o) ≡ option_map (λ k. suc n + k) o
+behind None n = refl
+behind (Some k) n = ap Some (omega arith)
 
-hidden : (a b : Bool) (x y z : Option Tree) → a ≡ b → (if a then x else z) ≡ (if b then x else (if a then y else z))
-hidden true true x y z h = refl
-hidden true false x y z h = absurd (true≢false h)
-hidden false true x y z h = absurd (false≢true h)
-hidden false false x y z h = refl
+unmoved : (o : Option ℕ) → o ≡ option_map (λ k. 0 + k) o
+unmoved None = refl
+unmoved (Some k) = ap Some (omega arith)
 
--- the key stays as it was written
-pub put_over : (es : List Entry) (i : ℕ) (t : Tree) (e : Entry) → i < length es → key_cmp (key_of e) t ≡ Equal → ((d : Entry) → key_of (get_or es i d) ≡ key_of e) → NoneBefore es t i → Puts es (set es i e) t (value_of e)
-put_over [] i t e h level same none = absurd (omega (arith, h))
-put_over (d ∷ es) zero t e h level same none = λ q. hidden (has_key q e) (same_key q t) (Some (value_of e)) (Some (value_of d)) (found q es) (ap is_eq (alike_right keys_ordered (key_of e) t q level)) ∙ ap (λ k. if same_key q t then Some (value_of e) else (if same_key q k then Some (value_of d) else found q es)) (sym (same d))
-put_over (d ∷ es) (suc i) t e h level same none = behind d es (set es i e) t (value_of e) (none 0 d (omega arith)) (put_over es i t e (omega (arith, h)) level same (behind_first d es t i none))
+number_behind : (t : Tree) (l m : List Entry) → NoneHas t l → number_of t (l ++ m) ≡ option_map (λ k. length l + k) (number_of t m)
+number_behind t [] m n = unmoved (number_of t m)
+number_behind t (e ∷ l) m n =
+    number_step t e (l ++ m)
+    ∙ ap (λ b. cond b (Some 0) (option_map suc (number_of t (l ++ m)))) n.0
+    ∙ ap (option_map suc) (number_behind t l m n.1)
+    ∙ behind (number_of t m) (length l)
+
+within : (b : Bool) (p n : ℕ) → cond b (Some p) None ≡ Some n → (b ≡ true) × (p ≡ n)
+within true p n e = (refl, ap (λ o. unwrap_or o 0) e)
+within false p n e = cc
+
+-- a number is below the count
+pub number_within : (t : Tree) (es : List Entry) (n : ℕ) → number_of t es ≡ Some n → n < length es
+number_within t es n e =
+    let p = prefix_len (λ d. not (has_key t d)) es in
+    let w = within (ltb p (length es)) p n e in
+    omega (arith, ltb-true p (length es) w.0, w.1)
+
+-- a key beside an entry in the midst of others
+module _ (t : Tree) (l : List Entry) (e : Entry) (r : List Entry) (round : Round l e r) where
+  -- in front of it
+  module _ (less : key_cmp t (key_of e) ≡ Less) where
+    none_from : NoneHas t (e ∷ r)
+    none_from = (ap is_eq less, none_above t r (above_more t (key_of e) r less round.above))
+
+    pub found_left : found t l ≡ found t (l ++ e ∷ r)
+    found_left = sym (found_in_front t l (e ∷ r) none_from)
+
+    pub number_left : number_of t l ≡ number_of t (l ++ e ∷ r)
+    number_left = sym (number_in_front t l (e ∷ r) none_from)
+
+  -- at it
+  module _ (equal : key_cmp t (key_of e) ≡ Equal) where
+    none_before : NoneHas t l
+    none_before = none_below t l (below_same t (key_of e) l equal round.below)
+
+    pub found_here : Some (value_of e) ≡ found t (l ++ e ∷ r)
+    found_here = sym (found_behind t l (e ∷ r) none_before ∙ ap (λ b. if b then Some (value_of e) else found t r) (ap is_eq equal))
+
+    number_first_here : number_of t (e ∷ r) ≡ Some 0
+    number_first_here = number_step t e r ∙ ap (λ b. cond b (Some 0) (option_map suc (number_of t r))) (ap is_eq equal)
+
+    pub number_here : Some (length l) ≡ number_of t (l ++ e ∷ r)
+    number_here = ap Some (omega arith) ∙ sym (number_behind t l (e ∷ r) none_before ∙ ap (option_map (λ k. length l + k)) number_first_here)
+
+  -- behind it
+  module _ (greater : key_cmp t (key_of e) ≡ Greater) where
+    none_up_to : NoneHas t l
+    none_up_to = none_below t l (below_more t (key_of e) l greater round.below)
+
+    pub found_right : found t r ≡ found t (l ++ e ∷ r)
+    found_right = sym (found_behind t l (e ∷ r) none_up_to ∙ ap (λ b. if b then Some (value_of e) else found t r) (ap is_eq greater))
+
+    number_past_here : number_of t (e ∷ r) ≡ option_map suc (number_of t r)
+    number_past_here = number_step t e r ∙ ap (λ b. cond b (Some 0) (option_map suc (number_of t r))) (ap is_eq greater)
+
+    pub number_right : number_of t (l ++ e ∷ r) ≡ option_map (λ k. length l + k) (option_map suc (number_of t r))
+    number_right = number_behind t l (e ∷ r) none_up_to ∙ ap (option_map (λ k. length l + k)) number_past_here

@@ -4,5 +4,6 @@ mod Decoded
 pub mod Shaped
 mod Cases
 mod Chains
+mod Rising
 mod Found
-mod Place
+mod Placed

@@ -1,7 +1,6 @@
 -- A map as its entries, in the order of their keys.
-use Rattle.std.specs.Prelude.{ℕ, ◌<◌, ◌≤◌, ◌≡◌, Bool, if◌then◌else◌, List, [], ◌∷◌, length, slice_get, slice_index_or, position, Option, Some, None, option_map}
-use Rattle.std.specs.List.{HoldsAt}
-use Rattle.std.specs.List.Sorted.{IsPartitionPoint}
+use Rattle.std.specs.Prelude.{ℕ, ◌<◌, ◌≡◌, Bool, if◌then◌else◌, List, [], ◌∷◌, length, slice_get, slice_index_or, position, Option, Some, None, option_map}
+use Rattle.std.specs.declared.cmp.Ordering.{Ordering}
 use Rattle.std.specs.declared.cmp.Ordering.TheVariants.{Less, Equal, Greater}
 use Rattle.swc_ast.specs.Tree.{Text, Read, Dot, Index, Tree, node, Forest, ε, ◌⊳◌}
 use Rattle.swc_ast.specs.Views.{expr_tree}
@@ -51,16 +50,17 @@ told f (Some e) = f e
 abbrev pub name_at : List Entry → ℕ → Option Text
 name_at es i = told (λ e. leading_name (key_of e)) (slice_get es i)
 
+-- one of three things by an order
+abbrev pub order_cases : {A : Type 0} → Ordering → A → A → A → A
+order_cases Less a b c = a
+order_cases Equal a b c = b
+order_cases Greater a b c = c
+
+-- an entry in its place among others: a key that is there stays as it was written
+abbrev pub put : Entry → List Entry → List Entry
+put e [] = e ∷ []
+put e (d ∷ es) = order_cases (key_cmp (key_of e) (key_of d)) (e ∷ d ∷ es) (record { key = d.key; value = e.value } ∷ es) (d ∷ put e es)
+
 -- the keys rise, so no key comes twice
 abbrev pub IsSorted : List Entry → Type 0
 IsSorted es = (i j : ℕ) (d : Entry) → i < j → j < length es → key_cmp (key_of (slice_index_or es i d)) (key_of (slice_index_or es j d)) ≡ Less
-
--- a key is at a place
-pub record IsAt (es : List Entry) (t : Tree) (i : ℕ) : Type 0 where
-  pub in_range : i < length es
-  pub has_key : HoldsAt (λ e. key_cmp (key_of e) t ≡ Equal) es i
-
--- a key would go at a place: the keys before it are below, and those from it on above
-pub record IsGapFor (es : List Entry) (t : Tree) (i : ℕ) : Type 0 where
-  pub in_range : i ≤ length es
-  pub parted : IsPartitionPoint (λ e. key_cmp (key_of e) t ≡ Less) (λ e. key_cmp (key_of e) t ≡ Greater) es i

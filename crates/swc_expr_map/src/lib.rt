@@ -9,6 +9,7 @@ mod entry;
 mod leading;
 mod map;
 mod numbers;
+mod search_tree;
 mod texts;
 
 pub use map::GlobalExprMap;

@@ -3,14 +3,12 @@ ghost use Rattle.std.specs.Prelude.{◌≡◌, ◌+◌, [], length, is_some, Som
 ghost use Rattle.swc_ast.specs.Tree.{Tree};
 ghost use Rattle.swc_ast.specs.Views.{expr_tree};
 ghost use Rattle.swc_ast.specs.declared.errors.PassError.TheVariants.{OutOfMemory};
-ghost use Rattle.swc_expr_map.specs.Order.{key_cmp, same_key};
-ghost use Rattle.swc_expr_map.specs.Entries.{found, number_of, value_at, name_at, IsAt, IsGapFor, IsSorted};
+ghost use Rattle.swc_expr_map.specs.Order.{same_key};
+ghost use Rattle.swc_expr_map.specs.Entries.{found, number_of, value_at, name_at};
 
-use crate::compare::compare;
-use crate::entry::Entry;
 use crate::leading::leading_name;
+use crate::search_tree::SearchTree;
 use std::alloc::Global;
-use std::cmp::Ordering;
 use std::marker::Model;
 use swc_ast::{Expr, PassError};
 use swc_visit::open_expr;
@@ -18,8 +16,12 @@ use swc_visit::open_expr;
 /// Values by expressions. Keys are compared without spans and contexts, and have numbers from 0 on in their order.
 #[derive(Drop)]
 pub struct GlobalExprMap {
-    entries: Vec<Entry>,
+    alloc: Global,
+    entries: SearchTree,
 }
+
+/// More entries than memory can hold.
+const MOST_ENTRIES: usize = 1 << 60;
 
 impl Model for GlobalExprMap {
     ghost use Rattle.std.specs.Coded.{codes};
@@ -32,9 +34,9 @@ impl Model for GlobalExprMap {
 
     ghost coded = { Prim.hlevel (codes, e.the_row.coded) };
 
-    ghost view = { λ m. m.entries.items };
+    ghost view = { λ m. m.entries };
 
-    ghost invariant = { λ m. IsSorted m.entries.items };
+    ghost invariant = { λ m. IsSorted m.entries };
 }
 
 impl GlobalExprMap {
@@ -43,7 +45,8 @@ impl GlobalExprMap {
         ensures { result ≡ [] }
     {
         GlobalExprMap {
-            entries: Vec::new(alloc),
+            alloc,
+            entries: SearchTree::new(),
         }
     }
 
@@ -54,23 +57,17 @@ impl GlobalExprMap {
         ensures unchanged { OnErr result (self.new ≡ self.old) }
         ensures memory { IfErr result (λ e. e ≡ OutOfMemory) }
     {
-        match self.search(&key) {
-            Ok(at) => {
-                self.entries[at].value = value;
-                Ok(())
-            }
-            Err(at) => Ok(self.entries.insert(at, Entry { key, value })?),
+        if self.entries.len() >= MOST_ENTRIES {
+            return Err(PassError::OutOfMemory);
         }
+        Ok(self.entries.insert(self.alloc, key, value)?)
     }
 
     /// Returns the value at a key, if there is one.
     pub fn get(&self, key: &Expr) -> Option<&Expr>
         ensures { option_map (λ e. expr_tree e.now) result ≡ found (expr_tree key.now) self.now }
     {
-        match self.search(key) {
-            Ok(at) => Some(&self.entries[at].value),
-            Err(_) => None,
-        }
+        self.entries.get(key)
     }
 
     /// Returns how many keys there are. Their numbers are those below.
@@ -84,14 +81,14 @@ impl GlobalExprMap {
     pub fn number(&self, key: &Expr) -> Option<usize>
         ensures { result ≡ number_of (expr_tree key.now) self.now }
     {
-        self.search(key).ok()
+        self.entries.number(key)
     }
 
     /// Returns the value at the key of a number, if there is such a key.
     pub fn value(&self, number: usize) -> Option<&Expr>
         ensures { option_map (λ e. expr_tree e.now) result ≡ value_at self.now number }
     {
-        Some(&self.entries.get(number)?.value)
+        Some(&self.entries.entry(number)?.value)
     }
 
     /// Returns the text of the name that the key of a number begins with: `None` where the key is no chain of members from a name
@@ -99,19 +96,6 @@ impl GlobalExprMap {
     pub fn name(&self, number: usize) -> Option<&str>
         ensures { option_map (λ s. s.now) result ≡ name_at self.now number }
     {
-        leading_name(open_expr(&self.entries.get(number)?.key))
-    }
-
-    /// Where a key is, or where it would go.
-    fn search(&self, key: &Expr) -> Result<usize, usize>
-        ensures at { IfOk result (IsAt self.now (expr_tree key.now)) }
-        ensures absent { IfErr result (IsGapFor self.now (expr_tree key.now)) }
-        ensures sorted { IsSorted self.now }
-    {
-        self.entries.binary_search_by(
-            |e: &Entry| -> Ordering
-                ensures { result ≡ key_cmp (expr_tree e.now.key) (expr_tree key.entry.now) }
-            { compare(&e.key, key) },
-        )
+        leading_name(open_expr(&self.entries.entry(number)?.key))
     }
 }
