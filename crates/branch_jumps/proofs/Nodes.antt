@@ -3,9 +3,9 @@ use Rattle.std.proofs.Common.{◌≡◌, ℕ, suc, ◌+◌, ◌<◌, Bool, true,
 use Rattle.std.proofs.Math.Seq.{drop-cons}
 use Rattle.std.specs.Prelude.{Option, Some, None}
 use Rattle.swc_ast.specs.Tree as tree
-use Rattle.swc_ast.specs.Tree.{Tree, node, Forest, ε, ◌⊳◌}
+use Rattle.swc_ast.specs.Tree.{Text, Tree, node, Forest, ε, ◌⊳◌}
 use Rattle.swc_ast.specs.Parts.{list_trees, optional_trees}
-use Rattle.swc_ast.specs.Statements.{declarator_tree, var_tree, init_tree, option_init_tree, fn_decl_tree, block_tree, option_block_tree, return_tree, throw_tree, expr_stmt_tree, labeled_tree, handler_tree, try_tree, while_node, do_while_node, case_children}
+use Rattle.swc_ast.specs.Statements.{declarator_tree, var_tree, init_tree, option_init_tree, fn_decl_tree, block_tree, option_block_tree, return_tree, throw_tree, expr_stmt_tree, handler_tree, try_tree, while_node, do_while_node, case_children}
 use Rattle.swc_ast.specs.Views.{expr_tree, stmt_tree, decl_tree, function_trees, if_tree, for_tree, loop_trees, case_trees, switch_tree}
 use Rattle.swc_ast.proofs.Equations.{stmt_tree-While, stmt_tree-DoWhile, if_tree-is, for_tree-is, loop_trees-is, case_trees-is, switch_tree-is, decl_tree-Fn, decl_tree-Var}
 use Rattle.swc_ast.specs.declared.declarations.Decl.TheOpen as Open
@@ -25,7 +25,6 @@ use Rattle.swc_ast.specs.declared.expressions.PropOrSpread.{PropOrSpread}
 use Rattle.swc_ast.specs.declared.statements.ExprStmt.{ExprStmt}
 use Rattle.swc_ast.specs.declared.statements.ForStmt.{ForStmt}
 use Rattle.swc_ast.specs.declared.statements.IfStmt.{IfStmt}
-use Rattle.swc_ast.specs.declared.statements.LabeledStmt.{LabeledStmt}
 use Rattle.swc_ast.specs.declared.statements.ReturnStmt.{ReturnStmt}
 use Rattle.swc_ast.specs.declared.statements.Stmt.{Stmt}
 use Rattle.swc_ast.specs.declared.statements.Stmt.TheVariants as in_stmt
@@ -36,7 +35,7 @@ use Rattle.swc_ast.specs.declared.statements.TryStmt.{TryStmt}
 use Rattle.swc_ast.specs.declared.statements.VarDeclOrExpr.{VarDeclOrExpr}
 use Rattle.swc_ast.specs.declared.statements.VarDeclOrExpr.TheVariants as init
 use Rattle.swc_ast.specs.declared.statements.WhileStmt.{WhileStmt}
-use Rattle.branch_rules.specs.Jumps.{Kinds, in_loop, in_switch, escapes, some_escape}
+use Rattle.branch_rules.specs.Jumps.{Kinds, in_loop, in_switch, escapes_behind, escapes, some_escape}
 use Rattle.branch_jumps.proofs.Expressions.{neither, expr_closed, optional_closed, absent_closed}
 
 pub or_none : (b : Bool) → (b || false) ≡ b
@@ -75,49 +74,46 @@ init_closed g (Some (init.Expr e)) = expr_closed g e.value
 abbrev DeclForm : Type 0
 DeclForm = Open.Decl-F Decl BlockStmtOrExpr Expr Prop PropOrSpread Stmt Function ArrowExpr MethodProp ForStmt IfStmt SwitchCase SwitchStmt WhileStmt
 
-decl_form_closed : (g : Kinds) (o : DeclForm) → escapes g (decl_tree (roll-Decl o)) ≡ false
-decl_form_closed g (Open.Decl::Fn d) = ap (escapes g) (ap decl_tree (in_decl.rolls-Fn d) ∙ decl_tree-Fn d)
-decl_form_closed g (Open.Var d) = ap (escapes g) (ap decl_tree (in_decl.rolls-Var d) ∙ decl_tree-Var d) ∙ var_closed g d
+decl_form_closed : (near : Option Text) (g : Kinds) (o : DeclForm) → escapes_behind near g (decl_tree (roll-Decl o)) ≡ false
+decl_form_closed near g (Open.Decl::Fn d) = ap (escapes_behind near g) (ap decl_tree (in_decl.rolls-Fn d) ∙ decl_tree-Fn d)
+decl_form_closed near g (Open.Var d) = ap (escapes_behind near g) (ap decl_tree (in_decl.rolls-Var d) ∙ decl_tree-Var d) ∙ var_closed g d
 
-pub decl_closed : (g : Kinds) (d : Decl) → false ≡ escapes g (decl_tree d)
-decl_closed g d = sym (ap (λ q. escapes g (decl_tree q)) (sym (roll-out-Decl d)) ∙ decl_form_closed g (out-Decl d))
+pub decl_closed : (near : Option Text) (g : Kinds) (d : Decl) → false ≡ escapes_behind near g (decl_tree d)
+decl_closed near g d = sym (ap (λ q. escapes_behind near g (decl_tree q)) (sym (roll-out-Decl d)) ∙ decl_form_closed near g (out-Decl d))
 
 -- statements of statements
 
-pub labeled_escapes : (g : Kinds) (n : LabeledStmt Stmt) → escapes g (stmt_tree n.body.value) ≡ escapes g (labeled_tree stmt_tree n)
-labeled_escapes g n = sym (or_none (escapes g (stmt_tree n.body.value)))
-
-pub if_escapes : (g : Kinds) (n : IfStmt) → escapes g (if_tree n) ≡ (escapes g (stmt_tree (out-IfStmt n).cons.value) || some_escape g (optional_trees stmt_tree (out-IfStmt n).alt))
-if_escapes g n = ap (escapes g) (if_tree-is n) ∙ skipped _ _ (expr_closed g (out-IfStmt n).test.value)
+pub if_escapes : (near : Option Text) (g : Kinds) (n : IfStmt) → escapes_behind near g (if_tree n) ≡ (escapes g (stmt_tree (out-IfStmt n).cons.value) || some_escape g (optional_trees stmt_tree (out-IfStmt n).alt))
+if_escapes near g n = ap (escapes_behind near g) (if_tree-is n) ∙ skipped _ _ (expr_closed g (out-IfStmt n).test.value)
 
 pub try_escapes : (g : Kinds) (n : TryStmt Stmt) → escapes g (try_tree stmt_tree n) ≡ (escapes g (block_tree stmt_tree n.block) || (escapes g (handler_tree stmt_tree n.handler) || escapes g (option_block_tree stmt_tree n.finalizer)))
 try_escapes g n = ap (λ b. escapes g (block_tree stmt_tree n.block) || (escapes g (handler_tree stmt_tree n.handler) || b)) (or_none (escapes g (option_block_tree stmt_tree n.finalizer)))
 
-while_escapes : (g : Kinds) (n : WhileStmt) → escapes g (while_node (loop_trees n)) ≡ escapes (in_loop g) (stmt_tree (out-WhileStmt n).body.value)
-while_escapes g n = ap (λ p. escapes g (while_node p)) (loop_trees-is n) ∙ skipped _ _ (expr_closed g (out-WhileStmt n).test.value)
+while_escapes : (near : Option Text) (g : Kinds) (n : WhileStmt) → escapes_behind near g (while_node (loop_trees n)) ≡ escapes (in_loop near g) (stmt_tree (out-WhileStmt n).body.value)
+while_escapes near g n = ap (λ p. escapes_behind near g (while_node p)) (loop_trees-is n) ∙ skipped _ _ (expr_closed g (out-WhileStmt n).test.value)
 
-do_escapes : (g : Kinds) (n : WhileStmt) → escapes g (do_while_node (loop_trees n)) ≡ escapes (in_loop g) (stmt_tree (out-WhileStmt n).body.value)
-do_escapes g n = ap (λ p. escapes g (do_while_node p)) (loop_trees-is n) ∙ (ap (λ b. escapes (in_loop g) (stmt_tree (out-WhileStmt n).body.value) || b) (expr_closed g (out-WhileStmt n).test.value) ∙ or_none _)
+do_escapes : (near : Option Text) (g : Kinds) (n : WhileStmt) → escapes_behind near g (do_while_node (loop_trees n)) ≡ escapes (in_loop near g) (stmt_tree (out-WhileStmt n).body.value)
+do_escapes near g n = ap (λ p. escapes_behind near g (do_while_node p)) (loop_trees-is n) ∙ (ap (λ b. escapes (in_loop near g) (stmt_tree (out-WhileStmt n).body.value) || b) (expr_closed g (out-WhileStmt n).test.value) ∙ or_none _)
 
-pub for_escapes : (g : Kinds) (n : ForStmt) → escapes g (for_tree n) ≡ escapes (in_loop g) (stmt_tree (out-ForStmt n).body.value)
-for_escapes g n = ap (escapes g) (for_tree-is n) ∙ (skipped _ _ (init_closed g (out-ForStmt n).init) ∙ (skipped _ _ (absent_closed g (out-ForStmt n).test) ∙ skipped _ _ (absent_closed g (out-ForStmt n).update)))
+pub for_escapes : (near : Option Text) (g : Kinds) (n : ForStmt) → escapes_behind near g (for_tree n) ≡ escapes (in_loop near g) (stmt_tree (out-ForStmt n).body.value)
+for_escapes near g n = ap (escapes_behind near g) (for_tree-is n) ∙ (skipped _ _ (init_closed g (out-ForStmt n).init) ∙ (skipped _ _ (absent_closed g (out-ForStmt n).test) ∙ skipped _ _ (absent_closed g (out-ForStmt n).update)))
 
-pub switch_escapes : (g : Kinds) (n : SwitchStmt) → escapes g (switch_tree n) ≡ some_escape (in_switch g) (case_children (map case_trees (out-SwitchStmt n).cases.items))
-switch_escapes g n = ap (escapes g) (switch_tree-is n) ∙ skipped _ _ (expr_closed g (out-SwitchStmt n).discriminant.value)
+pub switch_escapes : (near : Option Text) (g : Kinds) (n : SwitchStmt) → escapes_behind near g (switch_tree n) ≡ some_escape (in_switch g) (case_children (map case_trees (out-SwitchStmt n).cases.items))
+switch_escapes near g n = ap (escapes_behind near g) (switch_tree-is n) ∙ skipped _ _ (expr_closed g (out-SwitchStmt n).discriminant.value)
 
 pub case_escapes : (g : Kinds) (n : SwitchCase) (cs : List SwitchCase) → some_escape g (case_children (map case_trees (n ∷ cs))) ≡ (some_escape g (list_trees stmt_tree (out-SwitchCase n).cons.items) || some_escape g (case_children (map case_trees cs)))
 case_escapes g n cs = ap (λ p. escapes g p.test || (escapes g p.body || some_escape g (case_children (map case_trees cs)))) (case_trees-is n) ∙ skipped _ _ (absent_closed g (out-SwitchCase n).test)
 
 -- a loop whose body was looked at
 
-at_body : (g k : Kinds) (x y : Stmt) (b : Bool) → k ≡ in_loop g → x ≡ y → b ≡ escapes k (stmt_tree x) → b ≡ escapes (in_loop g) (stmt_tree y)
-at_body g k x y b d e h = h ∙ (ap (λ j. escapes j (stmt_tree x)) d ∙ ap (λ z. escapes (in_loop g) (stmt_tree z)) e)
+at_body : (near : Option Text) (g k : Kinds) (x y : Stmt) (b : Bool) → k ≡ in_loop near g → x ≡ y → b ≡ escapes k (stmt_tree x) → b ≡ escapes (in_loop near g) (stmt_tree y)
+at_body near g k x y b d e h = h ∙ (ap (λ j. escapes j (stmt_tree x)) d ∙ ap (λ z. escapes (in_loop near g) (stmt_tree z)) e)
 
-pub at_while : (g k : Kinds) (s x : Stmt) (n : WhileStmt) (b : Bool) → s ≡ in_stmt.While n → k ≡ in_loop g → x ≡ (out-WhileStmt n).body.value → b ≡ escapes k (stmt_tree x) → b ≡ escapes g (stmt_tree s)
-at_while g k s x n b is d e h = at_body g k x _ b d e h ∙ sym (ap (λ z. escapes g (stmt_tree z)) is ∙ (ap (escapes g) (stmt_tree-While n) ∙ while_escapes g n))
+pub at_while : (near : Option Text) (g k : Kinds) (s x : Stmt) (n : WhileStmt) (b : Bool) → s ≡ in_stmt.While n → k ≡ in_loop near g → x ≡ (out-WhileStmt n).body.value → b ≡ escapes k (stmt_tree x) → b ≡ escapes_behind near g (stmt_tree s)
+at_while near g k s x n b is d e h = at_body near g k x _ b d e h ∙ sym (ap (λ z. escapes_behind near g (stmt_tree z)) is ∙ (ap (escapes_behind near g) (stmt_tree-While n) ∙ while_escapes near g n))
 
-pub at_do : (g k : Kinds) (s x : Stmt) (n : WhileStmt) (b : Bool) → s ≡ in_stmt.DoWhile n → k ≡ in_loop g → x ≡ (out-WhileStmt n).body.value → b ≡ escapes k (stmt_tree x) → b ≡ escapes g (stmt_tree s)
-at_do g k s x n b is d e h = at_body g k x _ b d e h ∙ sym (ap (λ z. escapes g (stmt_tree z)) is ∙ (ap (escapes g) (stmt_tree-DoWhile n) ∙ do_escapes g n))
+pub at_do : (near : Option Text) (g k : Kinds) (s x : Stmt) (n : WhileStmt) (b : Bool) → s ≡ in_stmt.DoWhile n → k ≡ in_loop near g → x ≡ (out-WhileStmt n).body.value → b ≡ escapes k (stmt_tree x) → b ≡ escapes_behind near g (stmt_tree s)
+at_do near g k s x n b is d e h = at_body near g k x _ b d e h ∙ sym (ap (λ z. escapes_behind near g (stmt_tree z)) is ∙ (ap (escapes_behind near g) (stmt_tree-DoWhile n) ∙ do_escapes near g n))
 
 -- cases, from the one that was looked at
 
@@ -139,7 +135,6 @@ pub ruleset nodes = (
   throw_closed,
   expr_stmt_closed,
   decl_closed,
-  labeled_escapes,
   for_escapes,
   switch_escapes,
 )

@@ -1,37 +1,50 @@
 -- Jumps that may leave a statement.
-use Rattle.std.specs.Prelude.{Bool, false, ◌||◌, Some, None}
-use Rattle.swc_ast.specs.Tree.{Fn, Arrow, Method, FnDecl, ExportDefaultFn, While, DoWhile, For, Switch, Break, Continue, Tree, node, Forest, ε, ◌⊳◌}
+use Rattle.std.specs.Prelude.{Bool, false, not, ◌&&◌, ◌||◌, Option, Some, None, bytes_eq}
+use Rattle.swc_ast.specs.Tree.{Text, Fn, Arrow, Method, FnDecl, ExportDefaultFn, While, DoWhile, For, Labeled, Switch, Break, Continue, Tree, node, Forest, ε, ◌⊳◌}
 
--- which jumps are looked for: `break`, `continue`, and `continue` with a label
+-- Which jumps are looked for: `break`, `continue`, and `continue` with a label, but not with that of the nearest loop round the
+-- place that has one and is looked into itself.
 pub record Kinds : Type 0 where
   pub breaks : Bool
   pub continues : Bool
   pub labelled : Bool
+  pub inside : Option Text
 
--- what is looked for in the body of a loop, and in the cases of a switch
-abbrev pub in_loop : Kinds → Kinds
-in_loop g = record { breaks = false; continues = false; labelled = g.labelled }
+-- What is looked for in the body of a loop, and in the cases of a switch. A label stands right in front of the loop; if none
+-- does, that of the nearest loop round it that has one counts.
+abbrev pub in_loop : Option Text → Kinds → Kinds
+in_loop near g = record { breaks = false; continues = false; labelled = g.labelled; inside = near }
 
 abbrev pub in_switch : Kinds → Kinds
-in_switch g = record { breaks = false; continues = g.continues; labelled = g.labelled }
+in_switch g = record { breaks = false; continues = g.continues; labelled = g.labelled; inside = g.inside }
+
+-- whether a label is this one
+abbrev pub is_label : Text → Option Text → Bool
+is_label l None = false
+is_label l (Some m) = bytes_eq l m
 
 abbrev mutual
   -- whether such a jump stands in a tree, outside functions, loops and switches that it is aimed at
-  pub escapes : Kinds → Tree → Bool
-  escapes g (node (Break None) ss cs) = some_escape g cs || g.breaks
-  escapes g (node (Continue None) ss cs) = some_escape g cs || g.continues
-  escapes g (node (Continue (Some l)) ss cs) = some_escape g cs || g.labelled
-  escapes g (node (Fn o) ss cs) = false
-  escapes g (node Arrow ss cs) = false
-  escapes g (node (FnDecl x) ss cs) = false
-  escapes g (node (ExportDefaultFn o) ss cs) = false
-  escapes g (node Method ss (k ⊳ cs)) = escapes g k
-  escapes g (node While ss (t ⊳ b ⊳ ε)) = escapes g t || escapes (in_loop g) b
-  escapes g (node DoWhile ss (b ⊳ t ⊳ ε)) = escapes (in_loop g) b || escapes g t
-  escapes g (node For ss (i ⊳ t ⊳ u ⊳ b ⊳ ε)) = escapes g i || (escapes g t || (escapes g u || escapes (in_loop g) b))
-  escapes g (node (Switch ds) ss (d ⊳ cs)) = escapes g d || some_escape (in_switch g) cs
-  escapes g (node l ss cs) = some_escape g cs
+  pub escapes_behind : Option Text → Kinds → Tree → Bool
+  escapes_behind near g (node (Break None) ss cs) = some_escape g cs || g.breaks
+  escapes_behind near g (node (Continue None) ss cs) = some_escape g cs || g.continues
+  escapes_behind near g (node (Continue (Some l)) ss cs) = some_escape g cs || (g.labelled && not (is_label l g.inside))
+  escapes_behind near g (node (Fn o) ss cs) = false
+  escapes_behind near g (node Arrow ss cs) = false
+  escapes_behind near g (node (FnDecl x) ss cs) = false
+  escapes_behind near g (node (ExportDefaultFn o) ss cs) = false
+  escapes_behind near g (node Method ss (k ⊳ cs)) = escapes_behind g.inside g k
+  escapes_behind near g (node (Labeled l) ss (t ⊳ ε)) = escapes_behind (Some l) g t
+  escapes_behind near g (node While ss (t ⊳ b ⊳ ε)) = escapes_behind g.inside g t || escapes_behind near (in_loop near g) b
+  escapes_behind near g (node DoWhile ss (b ⊳ t ⊳ ε)) = escapes_behind near (in_loop near g) b || escapes_behind g.inside g t
+  escapes_behind near g (node For ss (i ⊳ t ⊳ u ⊳ b ⊳ ε)) = escapes_behind g.inside g i || (escapes_behind g.inside g t || (escapes_behind g.inside g u || escapes_behind near (in_loop near g) b))
+  escapes_behind near g (node (Switch ds) ss (d ⊳ cs)) = escapes_behind g.inside g d || some_escape (in_switch g) cs
+  escapes_behind near g (node l ss cs) = some_escape g cs
 
   pub some_escape : Kinds → Forest → Bool
   some_escape g ε = false
-  some_escape g (t ⊳ ts) = escapes g t || some_escape g ts
+  some_escape g (t ⊳ ts) = escapes_behind g.inside g t || some_escape g ts
+
+-- the same where no label stands in front of the tree
+abbrev pub escapes : Kinds → Tree → Bool
+escapes g t = escapes_behind g.inside g t

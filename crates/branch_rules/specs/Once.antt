@@ -10,13 +10,13 @@ use Rattle.swc_static.specs.Names.{label_of}
 use Rattle.branch_rules.specs.Jumps.{Kinds, escapes, some_escape}
 use Rattle.branch_rules.specs.Statements.{is_plain, gives_nothing}
 
--- `break` and `continue` of a loop, and each labelled `continue`: under some labels it goes on with the loop
+-- `break` and `continue` of a loop, and each `continue` with a label that stands in front of no loop inside: it may go on with this one
 abbrev pub looping : Kinds
-looping = record { breaks = true; continues = true; labelled = true }
+looping = record { breaks = true; continues = true; labelled = true; inside = None }
 
--- each labelled `continue`
+-- each such labelled `continue`
 abbrev pub labelling : Kinds
-labelling = record { breaks = false; continues = false; labelled = true }
+labelling = record { breaks = false; continues = false; labelled = true; inside = None }
 
 -- an unlabelled `break` or `continue`
 abbrev pub is_jump : Tree → Bool

@@ -1,9 +1,9 @@
 -- Jumps that may leave statements.
-use Rattle.std.proofs.Common.{◌≡◌, Bool, true, false, ◌||◌, Some, None, refl, sym}
+use Rattle.std.proofs.Common.{◌≡◌, Bool, true, false, not, ◌&&◌, ◌||◌, Option, Some, None, refl, sym}
 use Rattle.std.proofs.lemmas.Bool.{false≢true}
-use Rattle.swc_ast.specs.Tree.{Fn, Arrow, Method, FnDecl, ExportDefaultFn, While, DoWhile, For, Switch, Break, Continue, Tree, node, Forest, ε, ◌⊳◌}
+use Rattle.swc_ast.specs.Tree.{Text, Fn, Arrow, Method, FnDecl, ExportDefaultFn, While, DoWhile, For, Labeled, Switch, Break, Continue, Tree, node, Forest, ε, ◌⊳◌}
 use Rattle.swc_ast.specs.Scope.{joined}
-use Rattle.branch_rules.specs.Jumps.{Kinds, in_loop, in_switch, escapes, some_escape}
+use Rattle.branch_rules.specs.Jumps.{Kinds, in_loop, in_switch, is_label, escapes_behind, escapes, some_escape}
 use Rattle.branch_rules.specs.Switches.{breaking}
 use Rattle.swc_static.specs.Jumps.{jumps_out, any_jumps_out}
 use Rattle.branch_rules.specs.Once.{all_functions}
@@ -18,29 +18,38 @@ both_false true b h i = h
 both_false false b h i = i
 
 -- where none of some kinds escapes, no labelled `continue` does
-mutual
-  pub escapes_less : (g : Kinds) (t : Tree) → escapes g t ≡ false → escapes (in_loop g) t ≡ false
-  escapes_less g (node (Break None) ss cs) h = let p = neither (some_escape g cs) g.breaks h in both_false (some_escape (in_loop g) cs) false (some_less g cs p.0) refl
-  escapes_less g (node (Continue None) ss cs) h = let p = neither (some_escape g cs) g.continues h in both_false (some_escape (in_loop g) cs) false (some_less g cs p.0) refl
-  escapes_less g (node (Continue (Some l)) ss cs) h = let p = neither (some_escape g cs) g.labelled h in both_false (some_escape (in_loop g) cs) g.labelled (some_less g cs p.0) p.1
-  escapes_less g (node (Fn o) ss cs) h = refl
-  escapes_less g (node Arrow ss cs) h = refl
-  escapes_less g (node (FnDecl x) ss cs) h = refl
-  escapes_less g (node (ExportDefaultFn o) ss cs) h = refl
-  escapes_less g (node Method ss (k ⊳ cs)) h = escapes_less g k h
-  escapes_less g (node While ss (t ⊳ b ⊳ ε)) h = let p = neither (escapes g t) (escapes (in_loop g) b) h in both_false (escapes (in_loop g) t) (escapes (in_loop g) b) (escapes_less g t p.0) p.1
-  escapes_less g (node DoWhile ss (b ⊳ t ⊳ ε)) h = let p = neither (escapes (in_loop g) b) (escapes g t) h in both_false (escapes (in_loop g) b) (escapes (in_loop g) t) p.0 (escapes_less g t p.1)
-  escapes_less g (node For ss (i ⊳ t ⊳ u ⊳ b ⊳ ε)) h =
-      let p = neither (escapes g i) (escapes g t || (escapes g u || escapes (in_loop g) b)) h in
-      let q = neither (escapes g t) (escapes g u || escapes (in_loop g) b) p.1 in
-      let r = neither (escapes g u) (escapes (in_loop g) b) q.1 in
-      both_false (escapes (in_loop g) i) _ (escapes_less g i p.0) (both_false (escapes (in_loop g) t) _ (escapes_less g t q.0) (both_false (escapes (in_loop g) u) (escapes (in_loop g) b) (escapes_less g u r.0) r.1))
-  escapes_less g (node (Switch ds) ss (d ⊳ cs)) h = let p = neither (escapes g d) (some_escape (in_switch g) cs) h in both_false (escapes (in_loop g) d) (some_escape (in_loop g) cs) (escapes_less g d p.0) (some_less (in_switch g) cs p.1)
-  escapes_less g (node l ss cs) h = some_less g cs h
 
-  pub some_less : (g : Kinds) (ts : Forest) → some_escape g ts ≡ false → some_escape (in_loop g) ts ≡ false
+abbrev only_labelled : Kinds → Kinds
+only_labelled g = in_loop g.inside g
+
+mutual
+  behind_less : (near : Option Text) (g : Kinds) (t : Tree) → escapes_behind near g t ≡ false → escapes_behind near (only_labelled g) t ≡ false
+  behind_less near g (node (Break None) ss cs) h = let p = neither (some_escape g cs) g.breaks h in both_false (some_escape (only_labelled g) cs) false (some_less g cs p.0) refl
+  behind_less near g (node (Continue None) ss cs) h = let p = neither (some_escape g cs) g.continues h in both_false (some_escape (only_labelled g) cs) false (some_less g cs p.0) refl
+  behind_less near g (node (Continue (Some l)) ss cs) h = let p = neither (some_escape g cs) (g.labelled && not (is_label l g.inside)) h in both_false (some_escape (only_labelled g) cs) (g.labelled && not (is_label l g.inside)) (some_less g cs p.0) p.1
+  behind_less near g (node (Fn o) ss cs) h = refl
+  behind_less near g (node Arrow ss cs) h = refl
+  behind_less near g (node (FnDecl x) ss cs) h = refl
+  behind_less near g (node (ExportDefaultFn o) ss cs) h = refl
+  behind_less near g (node Method ss (k ⊳ cs)) h = behind_less g.inside g k h
+  behind_less near g (node (Labeled l) ss (t ⊳ ε)) h = behind_less (Some l) g t h
+  behind_less near g (node (Labeled l) ss cs) h = some_less g cs h
+  behind_less near g (node While ss (t ⊳ b ⊳ ε)) h = let p = neither (escapes g t) (escapes (in_loop near g) b) h in both_false (escapes (only_labelled g) t) (escapes (in_loop near g) b) (behind_less g.inside g t p.0) p.1
+  behind_less near g (node DoWhile ss (b ⊳ t ⊳ ε)) h = let p = neither (escapes (in_loop near g) b) (escapes g t) h in both_false (escapes (in_loop near g) b) (escapes (only_labelled g) t) p.0 (behind_less g.inside g t p.1)
+  behind_less near g (node For ss (i ⊳ t ⊳ u ⊳ b ⊳ ε)) h =
+      let p = neither (escapes g i) (escapes g t || (escapes g u || escapes (in_loop near g) b)) h in
+      let q = neither (escapes g t) (escapes g u || escapes (in_loop near g) b) p.1 in
+      let r = neither (escapes g u) (escapes (in_loop near g) b) q.1 in
+      both_false (escapes (only_labelled g) i) _ (behind_less g.inside g i p.0) (both_false (escapes (only_labelled g) t) _ (behind_less g.inside g t q.0) (both_false (escapes (only_labelled g) u) (escapes (in_loop near g) b) (behind_less g.inside g u r.0) r.1))
+  behind_less near g (node (Switch ds) ss (d ⊳ cs)) h = let p = neither (escapes g d) (some_escape (in_switch g) cs) h in both_false (escapes (only_labelled g) d) (some_escape (only_labelled g) cs) (behind_less g.inside g d p.0) (some_less (in_switch g) cs p.1)
+  behind_less near g (node l ss cs) h = some_less g cs h
+
+  pub some_less : (g : Kinds) (ts : Forest) → some_escape g ts ≡ false → some_escape (in_loop g.inside g) ts ≡ false
   some_less g ε h = refl
-  some_less g (t ⊳ ts) h = let p = neither (escapes g t) (some_escape g ts) h in both_false (escapes (in_loop g) t) (some_escape (in_loop g) ts) (escapes_less g t p.0) (some_less g ts p.1)
+  some_less g (t ⊳ ts) h = let p = neither (escapes g t) (some_escape g ts) h in both_false (escapes (only_labelled g) t) (some_escape (only_labelled g) ts) (behind_less g.inside g t p.0) (some_less g ts p.1)
+
+pub escapes_less : (g : Kinds) (t : Tree) → escapes g t ≡ false → escapes (in_loop g.inside g) t ≡ false
+escapes_less g t h = behind_less g.inside g t h
 
 pub functions_stay : (g : Kinds) (ts : Forest) → all_functions ts ≡ true → some_escape g ts ≡ false
 functions_stay g ε h = refl
@@ -64,21 +73,26 @@ mutual
   none_out_all (t ⊳ ts) = both_false (jumps_out false false t) (any_jumps_out false false ts) (none_out t) (none_out_all ts)
 
 mutual
-  pub break_out : (t : Tree) → escapes breaking t ≡ false → jumps_out true false t ≡ false
-  break_out (node (Break None) ss cs) h = absurd (false≢true (sym (neither (some_escape breaking cs) true h).1))
-  break_out (node (Continue None) ss cs) h = breaks_out cs (neither (some_escape breaking cs) false h).0
-  break_out (node (Continue (Some l)) ss cs) h = breaks_out cs (neither (some_escape breaking cs) false h).0
-  break_out (node (Fn o) ss cs) h = none_out_all cs
-  break_out (node Arrow ss cs) h = none_out_all cs
-  break_out (node (FnDecl x) ss cs) h = none_out_all cs
-  break_out (node (ExportDefaultFn o) ss cs) h = none_out_all cs
-  break_out (node Method ss cs) h = none_out_all cs
-  break_out (node While ss cs) h = none_out_all cs
-  break_out (node DoWhile ss cs) h = none_out_all cs
-  break_out (node For ss cs) h = none_out_all cs
-  break_out (node (Switch ds) ss cs) h = none_out_all cs
-  break_out (node l ss cs) h = breaks_out cs h
+  behind_out : (near : Option Text) (t : Tree) → escapes_behind near breaking t ≡ false → jumps_out true false t ≡ false
+  behind_out near (node (Break None) ss cs) h = absurd (false≢true (sym (neither (some_escape breaking cs) true h).1))
+  behind_out near (node (Continue None) ss cs) h = breaks_out cs (neither (some_escape breaking cs) false h).0
+  behind_out near (node (Continue (Some l)) ss cs) h = breaks_out cs (neither (some_escape breaking cs) false h).0
+  behind_out near (node (Fn o) ss cs) h = none_out_all cs
+  behind_out near (node Arrow ss cs) h = none_out_all cs
+  behind_out near (node (FnDecl x) ss cs) h = none_out_all cs
+  behind_out near (node (ExportDefaultFn o) ss cs) h = none_out_all cs
+  behind_out near (node Method ss cs) h = none_out_all cs
+  behind_out near (node (Labeled l) ss (t ⊳ ε)) h = both_false (jumps_out true false t) false (behind_out (Some l) t h) refl
+  behind_out near (node (Labeled l) ss cs) h = breaks_out cs h
+  behind_out near (node While ss cs) h = none_out_all cs
+  behind_out near (node DoWhile ss cs) h = none_out_all cs
+  behind_out near (node For ss cs) h = none_out_all cs
+  behind_out near (node (Switch ds) ss cs) h = none_out_all cs
+  behind_out near (node l ss cs) h = breaks_out cs h
 
   pub breaks_out : (ts : Forest) → some_escape breaking ts ≡ false → any_jumps_out true false ts ≡ false
   breaks_out ε h = refl
-  breaks_out (t ⊳ ts) h = let p = neither (escapes breaking t) (some_escape breaking ts) h in both_false (jumps_out true false t) (any_jumps_out true false ts) (break_out t p.0) (breaks_out ts p.1)
+  breaks_out (t ⊳ ts) h = let p = neither (escapes breaking t) (some_escape breaking ts) h in both_false (jumps_out true false t) (any_jumps_out true false ts) (behind_out None t p.0) (breaks_out ts p.1)
+
+pub break_out : (t : Tree) → escapes breaking t ≡ false → jumps_out true false t ≡ false
+break_out t h = behind_out None t h

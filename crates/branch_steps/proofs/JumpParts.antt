@@ -1,5 +1,5 @@
 -- Runs that end by no jump of a kind, and what is made of them.
-use Rattle.std.proofs.Common.{◌≡◌, ℕ, zero, suc, Bool, true, false, ◌&&◌, ◌||◌, if◌then◌else◌, List, [], ◌∷◌, ◌++◌, Option, Some, None, refl, sym, subst, bytes_eq, codes}
+use Rattle.std.proofs.Common.{◌≡◌, ℕ, zero, suc, Bool, true, false, not, ◌&&◌, ◌||◌, if◌then◌else◌, List, [], ◌∷◌, ◌++◌, Option, Some, None, refl, sym, subst, bytes_eq, codes}
 use Rattle.swc_ast.specs.declared.UpdateOp.{UpdateOp}
 use Rattle.swc_ast.specs.declared.BinaryOp.{BinaryOp}
 use Rattle.swc_ast.specs.declared.VarDeclKind.{VarDeclKind}
@@ -8,10 +8,11 @@ use Rattle.swc_ast.specs.Tree.{Text, Name, ItemKind, Plain, Spread, Hole, Tree, 
 use Rattle.swc_ast.specs.Value.{Env, Value, Undefined, ScriptThis, Function, Token, Items, Record, Values, ∅, ◌▹◌, Fields, NaN, Event, Reads, Reply, Gives, Throws, Cell, State, Broken, Continued, Returned, Thrown, Outcome, Done, Jumps, Outside, Cut, Run, and_then, Context, Meaning, is_data, all_data}
 use Rattle.swc_ast.specs.Operators.{truthy, is_nullish, to_text, to_number, strict_equal, prim}
 use Rattle.swc_ast.specs.Scope.{Declared, case_statements}
-use Rattle.swc_ast.specs.Meaning.{◌>>=◌, gives, leaves, in_core, take_reply, ask, checked_type, is_type_name, is_unresolved, read, read_host, read_bound, held_value, cell_at, write, write_host, write_bound, write_cell, is_initialised, initialise, initialise_bound, initialise_cell, Scope, in_scope, token_text, get, put, make_value, read_this, get_at, put_at, shape0, shape1, shape2, shape3, shape1+, shape2+, all_values, in_turn, run_all, spread_items, item_values, array_items, merged, object_fields, one_field, short_circuits, shortened, operate, assign, update, in_list_scope, plain, has_label, after_jump, turn, turns, do_turns, copies, at_label, at_break, Case, cases_of, bodies_from, default_bodies, chosen, selected, switch, is_param, handled, resume, finally, try_catch, declare, copied_names, for_loop, shape_if, shape_return, template_text, type_of_name}
+use Rattle.swc_ast.specs.Meaning.{◌>>=◌, gives, leaves, in_core, take_reply, ask, checked_type, is_type_name, is_unresolved, read, read_host, read_bound, held_value, cell_at, write, write_host, write_bound, write_cell, is_initialised, initialise, initialise_bound, initialise_cell, Scope, numbered, in_scope, token_text, get, put, make_value, read_this, get_at, put_at, shape0, shape1, shape2, shape3, shape1+, shape2+, all_values, in_turn, run_all, spread_items, item_values, array_items, merged, object_fields, one_field, short_circuits, shortened, operate, assign, update, in_list_scope, plain, has_label, after_jump, turn, turns, do_turns, copies, at_label, at_break, Case, cases_of, bodies_from, default_bodies, chosen, selected, switch, is_param, handled, resume, finally, try_catch, declare, copied_names, for_loop, shape_if, shape_return, template_text, type_of_name}
 use Rattle.expr_steps.proofs.Runs.{bind_chain}
-use Rattle.branch_rules.specs.Jumps.{Kinds, in_loop, in_switch}
+use Rattle.branch_rules.specs.Jumps.{Kinds, in_loop, in_switch, is_label}
 use Rattle.branch_steps.proofs.Leaving.{Stays, Keeps}
+use Rattle.branch_steps.proofs.Relabelled.{relabel, Follows, copies_follow, followed, Covered, no_nearer}
 
 pub or_left : (a b : Bool) → (a || b) ≡ false → a ≡ false
 or_left true b e = e
@@ -292,21 +293,21 @@ module _ (g : Kinds) where
   at_break_stays Outside h = tt
   at_break_stays Cut h = tt
 
-  pub aimed_stays : (b : Bool) (l : List ℕ) (s : State) → g.labelled ≡ false → Stays g (after_jump (if b then Some true else None) (Continued (Some l)) s)
+  pub aimed_stays : (b : Bool) (l : List ℕ) (s : State) → (b ≡ false → (g.labelled && not (is_label l g.inside)) ≡ false) → Stays g (after_jump (if b then Some true else None) (Continued (Some l)) s)
   aimed_stays true l s h = tt
-  aimed_stays false l s h = h
+  aimed_stays false l s h = h refl
 
-  pub turn_stays : (labels : List (List ℕ)) (o : Outcome Value) → Stays (in_loop g) o → Stays g (turn labels o)
+  pub turn_stays : (near : Option Text) (labels : List (List ℕ)) → Covered near g.inside labels → (o : Outcome Value) → Stays (in_loop near g) o → Stays g (turn labels o)
   unfolding turn
-  turn_stays labels (Done v s) h = tt
-  turn_stays labels (Jumps (Broken None) s) h = tt
-  turn_stays labels (Jumps (Broken (Some l)) s) h = refl
-  turn_stays labels (Jumps (Continued None) s) h = tt
-  turn_stays labels (Jumps (Continued (Some l)) s) h = aimed_stays (has_label l labels) l s h
-  turn_stays labels (Jumps (Returned v) s) h = refl
-  turn_stays labels (Jumps (Thrown v) s) h = refl
-  turn_stays labels Outside h = tt
-  turn_stays labels Cut h = tt
+  turn_stays near labels k (Done v s) h = tt
+  turn_stays near labels k (Jumps (Broken None) s) h = tt
+  turn_stays near labels k (Jumps (Broken (Some l)) s) h = refl
+  turn_stays near labels k (Jumps (Continued None) s) h = tt
+  turn_stays near labels k (Jumps (Continued (Some l)) s) h = aimed_stays (has_label l labels) l s (no_nearer g.labelled (has_label l labels) (is_label l near) (is_label l g.inside) (k.by l) h)
+  turn_stays near labels k (Jumps (Returned v) s) h = refl
+  turn_stays near labels k (Jumps (Thrown v) s) h = refl
+  turn_stays near labels k Outside h = tt
+  turn_stays near labels k Cut h = tt
 
   pub resume_stays : (o p : Outcome Value) → Stays g o → Stays g p → Stays g (resume o p)
   resume_stays (Done v s) (Done w t) h i = tt
@@ -364,27 +365,34 @@ module _ (g : Kinds) where
   unfolding copies in_scope
   copies_keep names c = record { by = λ s. tt }
 
-  pub turns_keep : (n : ℕ) (t b u : Meaning) (next : Context → Run Context) → ((c : Context) → Keeps g (t c)) → ((c : Context) → Keeps (in_loop g) (b c)) → ((c : Context) → Keeps g (next c)) → ((c : Context) → Keeps g (u c)) → (c : Context) → Keeps g (turns n t b next u c)
+  pub turns_keep : (near : Option Text) (n : ℕ) (t b u : Meaning) (next : Context → Run Context) → ((c : Context) → Keeps g (t c)) → ((c : Context) → Keeps (in_loop near g) (b c)) → ((c : Context) → Keeps g (next c)) → Follows next → ((c : Context) → Keeps g (u c)) → (ls : List (List ℕ)) → Covered near g.inside ls → (c : Context) → Keeps g (turns n t b next u (relabel ls c))
   unfolding turns
-  turns_keep zero t b u next ht hb hn hu c = keeps_then (ht (plain c)) (λ v. keeps_if (truthy v) keeps_cut (keeps_gives Undefined))
-  turns_keep (suc n) t b u next ht hb hn hu c =
+  turns_keep near zero t b u next ht hb hn hf hu ls k c = keeps_then (ht (plain c)) (λ v. keeps_if (truthy v) keeps_cut (keeps_gives Undefined))
+  turns_keep near (suc n) t b u next ht hb hn hf hu ls k c =
       keeps_then (ht (plain c)) (λ v. keeps_if (truthy v)
-      (keeps_then (record { by = λ s. turn_stays c.labels (b (plain c) s) ((hb (plain c)).by s) }) (λ goes_on. keeps_if goes_on
-      (keeps_then (hn c) (λ d. keeps_then (hu (plain d)) (λ w. turns_keep n t b u next ht hb hn hu d)))
+      (keeps_then (record { by = λ s. turn_stays near ls k (b (plain c) s) ((hb (plain c)).by s) }) (λ goes_on. keeps_if goes_on
+      (keeps_path (followed next hf ls c (λ d. u (plain d) >>= λ w. turns n t b next u d)) (keeps_then (hn c) (λ d. keeps_then (hu (plain d)) (λ w. turns_keep near n t b u next ht hb hn hf hu ls k d))))
       (keeps_gives Undefined)))
       (keeps_gives Undefined))
 
-  pub do_turns_keep : (n : ℕ) (b t : Meaning) → ((c : Context) → Keeps (in_loop g) (b c)) → ((c : Context) → Keeps g (t c)) → (c : Context) → Keeps g (do_turns n b t c)
+  pub do_turns_keep : (near : Option Text) (n : ℕ) (b t : Meaning) → ((c : Context) → Keeps (in_loop near g) (b c)) → ((c : Context) → Keeps g (t c)) → (c : Context) → Covered near g.inside c.labels → Keeps g (do_turns n b t c)
   unfolding do_turns
-  do_turns_keep zero b t hb ht c = keeps_cut
-  do_turns_keep (suc n) b t hb ht c =
-      keeps_then (record { by = λ s. turn_stays c.labels (b (plain c) s) ((hb (plain c)).by s) }) (λ goes_on. keeps_if goes_on
-      (keeps_then (ht (plain c)) (λ v. keeps_if (truthy v) (do_turns_keep n b t hb ht c) (keeps_gives Undefined)))
+  do_turns_keep near zero b t hb ht c k = keeps_cut
+  do_turns_keep near (suc n) b t hb ht c k =
+      keeps_then (record { by = λ s. turn_stays near c.labels k (b (plain c) s) ((hb (plain c)).by s) }) (λ goes_on. keeps_if goes_on
+      (keeps_then (ht (plain c)) (λ v. keeps_if (truthy v) (do_turns_keep near n b t hb ht c k) (keeps_gives Undefined)))
       (keeps_gives Undefined))
 
-  pub for_keeps : (n : ℕ) (head : Tree) (i t u b : Meaning) → ((c : Context) → Keeps g (i c)) → ((c : Context) → Keeps g (t c)) → ((c : Context) → Keeps g (u c)) → ((c : Context) → Keeps (in_loop g) (b c)) → (c : Context) → Keeps g (for_loop n head i t u b c)
+  -- a scope whose body runs under the labels that stand there
+  env_keeps : {A : Type 0} (binds : Name → Bool) (cells : Env → Scope) (m : Context → Run A) (c : Context) → ((e : Env) → Keeps g (m (record c { env = e }))) → Keeps g (in_scope binds cells m c)
+  unfolding in_scope
+  env_keeps binds cells m c h = record { by = λ s. (h (numbered binds c.env s)).by _ }
+
+  pub for_keeps : (near : Option Text) (n : ℕ) (head : Tree) (i t u b : Meaning) → ((c : Context) → Keeps g (i c)) → ((c : Context) → Keeps g (t c)) → ((c : Context) → Keeps g (u c)) → ((c : Context) → Keeps (in_loop near g) (b c)) → (c : Context) → Covered near g.inside c.labels → Keeps g (for_loop n head i t u b c)
   unfolding for_loop
-  for_keeps n head i t u b hi ht hu hb c = scope_keeps _ _ _ c (λ d. keeps_then (hi (plain d)) (λ v. keeps_then (copies_keep (copied_names head) d) (λ e. turns_keep n t b u (copies (copied_names head)) ht hb (copies_keep (copied_names head)) hu e)))
+  for_keeps near n head i t u b hi ht hu hb c k = env_keeps _ _ _ c (λ e. keeps_then (hi (plain (record c { env = e }))) (λ v.
+      keeps_path (followed (copies (copied_names head)) (copies_follow (copied_names head)) c.labels (record c { env = e }) (λ d. turns n t b (copies (copied_names head)) u d))
+      (keeps_then (copies_keep (copied_names head) (record c { env = e })) (λ d. turns_keep near n t b u (copies (copied_names head)) ht hb (copies_keep (copied_names head)) (copies_follow (copied_names head)) hu c.labels k d))))
 
   -- a switch: the bodies that are run are among those of the cases
   abbrev EachCase : List Case → Type 0

@@ -1,15 +1,16 @@
 -- A tree from which no such jump escapes ends by none.
-use Rattle.std.proofs.Common.{◌≡◌, ℕ, zero, suc, Bool, true, false, ◌&&◌, List, Some, None, refl}
+use Rattle.std.proofs.Common.{◌≡◌, ℕ, zero, suc, Bool, true, false, ◌&&◌, List, ◌∷◌, Option, Some, None, refl}
 use Rattle.std.proofs.lemmas.Bool.{false≢true}
 use Rattle.swc_ast.specs.declared.Span.{Span}
 use Rattle.swc_ast.specs.declared.UnaryOp.TheVariants.{Delete}
-use Rattle.swc_ast.specs.Tree.{Label, NumLit, StrLit, BoolLit, NullLit, This, Read, Template, Array, Object, SpreadRecord, KeyValue, Shorthand, Method, PlainKey, ComputedKey, Fn, Arrow, Body, Unary, TypeOfName, Binary, Cond, Seq, Dot, Index, Call, New, CallEval, CallDot, CallIndex, Assign, AssignDot, AssignIndex, Update, UpdateDot, UpdateIndex, Block, Empty, Throw, ExprStmt, Return, If, While, DoWhile, For, Absent, Labeled, Break, Continue, Switch, CaseBody, Try, VarDecl, Declarator, FnDecl, ExportDecl, Import, ExportNamed, ExportDefaultFn, ExportDefaultExpr, Tree, node, Forest, ε, ◌⊳◌}
+use Rattle.swc_ast.specs.Tree.{Text, Label, NumLit, StrLit, BoolLit, NullLit, This, Read, Template, Array, Object, SpreadRecord, KeyValue, Shorthand, Method, PlainKey, ComputedKey, Fn, Arrow, Body, Unary, TypeOfName, Binary, Cond, Seq, Dot, Index, Call, New, CallEval, CallDot, CallIndex, Assign, AssignDot, AssignIndex, Update, UpdateDot, UpdateIndex, Block, Empty, Throw, ExprStmt, Return, If, While, DoWhile, For, Absent, Labeled, Break, Continue, Switch, CaseBody, Try, VarDecl, Declarator, FnDecl, ExportDecl, Import, ExportNamed, ExportDefaultFn, ExportDefaultExpr, Tree, node, Forest, ε, ◌⊳◌}
 use Rattle.swc_ast.specs.Value.{Value, Undefined, Function, Token, Values, nofield, Broken, Continued, Returned, Thrown, Outcome, Done, Jumps, Outside, Cut, Context, Meaning, is_data, all_data}
 use Rattle.swc_ast.specs.Operators.{truthy, to_text}
 use Rattle.swc_ast.specs.Meaning.{gives, is_unresolved, read, get, Caller, call_value, get_at, run_all, operator_of, first_tree, act, eval, evals}
 use Rattle.swc_ast.specs.Call.{Evaluator, at_call, call_at}
-use Rattle.branch_rules.specs.Jumps.{Kinds, in_loop, in_switch, escapes, some_escape}
+use Rattle.branch_rules.specs.Jumps.{Kinds, in_loop, in_switch, escapes_behind, escapes, some_escape}
 use Rattle.branch_steps.proofs.Leaving.{Stays, Keeps}
+use Rattle.branch_steps.proofs.Relabelled.{gives_follow, Covered, covered_itself, covered_label}
 use Rattle.branch_steps.proofs.JumpParts.{or_left, or_right, keeps_then, keeps_gives, keeps_leaves, keeps_thrown, keeps_core, keeps_if, ask_keeps, read_keeps, write_keeps, initialise_keeps, get_keeps, put_keeps, get_at_keeps, put_at_keeps, make_keeps, this_keeps, zero_keeps, one_keeps, two_keep, three_keep, some_keep, more_keep, values_keep, turn_keeps, all_keep, items_keep, fields_keep, field_keeps, template_keeps, operate_keeps, assign_keeps, update_keeps, type_keeps, at_label_stays, try_keeps, declare_keeps, if_keeps, return_keeps, list_scope_keeps, turns_keep, do_turns_keep, for_keeps, switch_keeps, Each}
 
 -- a call ends by no such jump
@@ -118,31 +119,36 @@ module _ (mark n : ℕ) (call : Caller) (kept : (g : Kinds) (f this : Value) (ar
   mutual
     unfolding eval evals act
 
-    pub tree_keeps : (t : Tree) (g : Kinds) → escapes g t ≡ false → (c : Context) → Keeps g (eval mark n call t c)
-    tree_keeps (node (Break None) ss ε) g e c = record { by = λ s. e }
-    tree_keeps (node (Break None) ss (t ⊳ ts)) g e c = keeps_leaves g
-    tree_keeps (node (Break (Some l)) ss ε) g e c = record { by = λ s. refl }
-    tree_keeps (node (Break (Some l)) ss (t ⊳ ts)) g e c = keeps_leaves g
-    tree_keeps (node (Continue None) ss ε) g e c = record { by = λ s. e }
-    tree_keeps (node (Continue None) ss (t ⊳ ts)) g e c = keeps_leaves g
-    tree_keeps (node (Continue (Some l)) ss ε) g e c = record { by = λ s. e }
-    tree_keeps (node (Continue (Some l)) ss (t ⊳ ts)) g e c = keeps_leaves g
-    tree_keeps (node (Fn o) ss cs) g e c = keeps_gives g _
-    tree_keeps (node Arrow ss cs) g e c = keeps_gives g _
-    tree_keeps (node (FnDecl x) ss cs) g e c = keeps_gives g Undefined
-    tree_keeps (node (ExportDefaultFn o) ss cs) g e c = keeps_gives g Undefined
-    tree_keeps (node Method ss (k ⊳ p ⊳ b ⊳ ε)) g e c = keeps_then g (tree_keeps k g e c) (λ w. keeps_then g (keeps_core g (to_text w)) (λ t. field_keeps g t _))
-    tree_keeps (node Method ss _) g e c = keeps_leaves g
-    tree_keeps (node While ss (t ⊳ b ⊳ ε)) g e c = turns_keep g n (eval mark n call t) (eval mark n call b) (λ d. gives Undefined) gives (tree_keeps t g (or_left _ _ e)) (tree_keeps b (in_loop g) (or_right _ _ e)) (λ d. keeps_gives g d) (λ d. keeps_gives g Undefined) c
-    tree_keeps (node While ss _) g e c = keeps_leaves g
-    tree_keeps (node DoWhile ss (b ⊳ t ⊳ ε)) g e c = do_turns_keep g n (eval mark n call b) (eval mark n call t) (tree_keeps b (in_loop g) (or_left _ _ e)) (tree_keeps t g (or_right _ _ e)) c
-    tree_keeps (node DoWhile ss _) g e c = keeps_leaves g
-    tree_keeps (node For ss (i ⊳ t ⊳ u ⊳ b ⊳ ε)) g e c = for_keeps g n (first_tree (i ⊳ t ⊳ u ⊳ b ⊳ ε)) (eval mark n call i) (eval mark n call t) (eval mark n call u) (eval mark n call b) (tree_keeps i g (or_left _ _ e)) (tree_keeps t g (or_left _ _ (or_right _ _ e))) (tree_keeps u g (or_left (escapes g u) _ (or_right (escapes g t) _ (or_right (escapes g i) _ e)))) (tree_keeps b (in_loop g) (or_right (escapes g u) _ (or_right (escapes g t) _ (or_right (escapes g i) _ e)))) c
-    tree_keeps (node For ss _) g e c = keeps_leaves g
-    tree_keeps (node (Switch ds) ss ε) g e c = keeps_leaves g
-    tree_keeps (node (Switch ds) ss (d ⊳ cs)) g e c = switch_keeps g (d ⊳ cs) ds (evals mark n call cs) (eval mark n call d) (tree_keeps d g (or_left _ _ e)) (trees_keep cs (in_switch g) (or_right _ _ e)) c
-    tree_keeps (node l ss cs) g e c = act_keeps l ss cs g (evals mark n call cs) (trees_keep cs g e) refl c
+    pub behind_keeps : (t : Tree) (near : Option Text) (g : Kinds) → escapes_behind near g t ≡ false → (c : Context) → Covered near g.inside c.labels → Keeps g (eval mark n call t c)
+    behind_keeps (node (Break None) ss ε) near g e c h = record { by = λ s. e }
+    behind_keeps (node (Break None) ss (t ⊳ ts)) near g e c h = keeps_leaves g
+    behind_keeps (node (Break (Some l)) ss ε) near g e c h = record { by = λ s. refl }
+    behind_keeps (node (Break (Some l)) ss (t ⊳ ts)) near g e c h = keeps_leaves g
+    behind_keeps (node (Continue None) ss ε) near g e c h = record { by = λ s. e }
+    behind_keeps (node (Continue None) ss (t ⊳ ts)) near g e c h = keeps_leaves g
+    behind_keeps (node (Continue (Some l)) ss ε) near g e c h = record { by = λ s. e }
+    behind_keeps (node (Continue (Some l)) ss (t ⊳ ts)) near g e c h = keeps_leaves g
+    behind_keeps (node (Fn o) ss cs) near g e c h = keeps_gives g _
+    behind_keeps (node Arrow ss cs) near g e c h = keeps_gives g _
+    behind_keeps (node (FnDecl x) ss cs) near g e c h = keeps_gives g Undefined
+    behind_keeps (node (ExportDefaultFn o) ss cs) near g e c h = keeps_gives g Undefined
+    behind_keeps (node Method ss (k ⊳ p ⊳ b ⊳ ε)) near g e c h = keeps_then g (behind_keeps k g.inside g e c (covered_itself g.inside c.labels)) (λ w. keeps_then g (keeps_core g (to_text w)) (λ t. field_keeps g t _))
+    behind_keeps (node Method ss _) near g e c h = keeps_leaves g
+    behind_keeps (node While ss (t ⊳ b ⊳ ε)) near g e c h = turns_keep g near n (eval mark n call t) (eval mark n call b) (λ d. gives Undefined) gives (λ k. behind_keeps t g.inside g (or_left _ _ e) k (covered_itself g.inside k.labels)) (λ d. behind_keeps b near (in_loop near g) (or_right _ _ e) d (covered_itself near d.labels)) (λ d. keeps_gives g d) gives_follow (λ d. keeps_gives g Undefined) c.labels h c
+    behind_keeps (node While ss _) near g e c h = keeps_leaves g
+    behind_keeps (node DoWhile ss (b ⊳ t ⊳ ε)) near g e c h = do_turns_keep g near n (eval mark n call b) (eval mark n call t) (λ d. behind_keeps b near (in_loop near g) (or_left _ _ e) d (covered_itself near d.labels)) (λ k. behind_keeps t g.inside g (or_right _ _ e) k (covered_itself g.inside k.labels)) c h
+    behind_keeps (node DoWhile ss _) near g e c h = keeps_leaves g
+    behind_keeps (node For ss (i ⊳ t ⊳ u ⊳ b ⊳ ε)) near g e c h = for_keeps g near n (first_tree (i ⊳ t ⊳ u ⊳ b ⊳ ε)) (eval mark n call i) (eval mark n call t) (eval mark n call u) (eval mark n call b) (λ k. behind_keeps i g.inside g (or_left _ _ e) k (covered_itself g.inside k.labels)) (λ k. behind_keeps t g.inside g (or_left _ _ (or_right _ _ e)) k (covered_itself g.inside k.labels)) (λ k. behind_keeps u g.inside g (or_left (escapes g u) _ (or_right (escapes g t) _ (or_right (escapes g i) _ e))) k (covered_itself g.inside k.labels)) (λ d. behind_keeps b near (in_loop near g) (or_right (escapes g u) _ (or_right (escapes g t) _ (or_right (escapes g i) _ e))) d (covered_itself near d.labels)) c h
+    behind_keeps (node For ss _) near g e c h = keeps_leaves g
+    behind_keeps (node (Labeled l) ss (t ⊳ ε)) near g e c h = record { by = λ s. at_label_stays g l _ ((behind_keeps t (Some l) g e (record c { labels = l ∷ c.labels }) (covered_label l g.inside c.labels)).by s) }
+    behind_keeps (node (Labeled l) ss _) near g e c h = keeps_leaves g
+    behind_keeps (node (Switch ds) ss ε) near g e c h = keeps_leaves g
+    behind_keeps (node (Switch ds) ss (d ⊳ cs)) near g e c h = switch_keeps g (d ⊳ cs) ds (evals mark n call cs) (eval mark n call d) (λ k. behind_keeps d g.inside g (or_left _ _ e) k (covered_itself g.inside k.labels)) (trees_keep cs (in_switch g) (or_right _ _ e)) c
+    behind_keeps (node l ss cs) near g e c h = act_keeps l ss cs g (evals mark n call cs) (trees_keep cs g e) refl c
 
     pub trees_keep : (ts : Forest) (g : Kinds) → some_escape g ts ≡ false → Each g (evals mark n call ts)
     trees_keep ε g e = tt
-    trees_keep (t ⊳ ts) g e = (tree_keeps t g (or_left _ _ e), trees_keep ts g (or_right _ _ e))
+    trees_keep (t ⊳ ts) g e = ((λ k. behind_keeps t g.inside g (or_left _ _ e) k (covered_itself g.inside k.labels)), trees_keep ts g (or_right _ _ e))
+
+  pub tree_keeps : (t : Tree) (g : Kinds) → escapes g t ≡ false → (c : Context) → Keeps g (eval mark n call t c)
+  tree_keeps t g e c = behind_keeps t g.inside g e c (covered_itself g.inside c.labels)

@@ -1,26 +1,24 @@
--- A tree without labelled `continue`s does the same under any labels.
-use Rattle.std.proofs.Common.{◌≡◌, ℕ, zero, suc, Bool, true, false, if◌then◌else◌, List, [], ◌∷◌, Option, Some, None, refl, sym, ap, ◌∙◌}
-use Rattle.std.proofs.lemmas.Bool.{false≢true, true≢false}
+-- A tree from which no labelled `continue` goes out does the same under any labels.
+use Rattle.std.proofs.Common.{◌≡◌, ℕ, zero, suc, Bool, true, false, ◌||◌, if◌then◌else◌, List, [], ◌∷◌, Option, Some, None, refl, sym, ap, ◌∙◌}
+use Rattle.std.proofs.lemmas.Bool.{false≢true}
 use Rattle.swc_ast.specs.declared.Span.{Span}
 use Rattle.swc_ast.specs.declared.UnaryOp.TheVariants.{Delete}
 use Rattle.swc_ast.specs.declared.VarDeclKind.{VarDeclKind}
 use Rattle.swc_ast.specs.declared.VarDeclKind.TheVariants.{Var, Let, Const}
 use Rattle.swc_ast.specs.Tree.{Text, Name, ItemKind, Hole, Label, NumLit, StrLit, BoolLit, NullLit, This, Read, Template, Array, Object, SpreadRecord, KeyValue, Shorthand, Method, PlainKey, ComputedKey, Fn, Arrow, Body, Unary, TypeOfName, Binary, Cond, Seq, Dot, Index, Call, New, CallEval, CallDot, CallIndex, Assign, AssignDot, AssignIndex, Update, UpdateDot, UpdateIndex, Block, Empty, Throw, ExprStmt, Return, If, While, DoWhile, For, Absent, Labeled, Break, Continue, Switch, CaseBody, Try, VarDecl, Declarator, FnDecl, ExportDecl, Import, ExportNamed, ExportDefaultFn, ExportDefaultExpr, Tree, node, Forest, ε, ◌⊳◌}
-use Rattle.swc_ast.specs.Value.{Env, Value, Undefined, Values, Fields, nofield, State, Broken, Continued, Returned, Thrown, Outcome, Done, Jumps, Outside, Cut, Run, and_then, Context, Meaning}
+use Rattle.swc_ast.specs.Value.{Env, Value, Undefined, Values, Fields, nofield, State, Broken, Continued, Returned, Thrown, Outcome, Done, Jumps, Outside, Cut, Run, Context, Meaning}
 use Rattle.swc_ast.specs.Operators.{truthy, to_text, strict_equal, prim}
-use Rattle.swc_ast.specs.Scope.{Declared, case_statements, default_name}
-use Rattle.swc_ast.specs.Meaning.{◌>>=◌, gives, in_core, is_unresolved, read, write, initialise, Scope, in_scope, get, put, Caller, get_at, put_at, shape0, shape1, shape2, shape3, shape1+, shape2+, all_values, in_turn, run_all, item_values, array_items, merged, object_fields, key_text, operate, operator_of, assign, in_list_scope, plain, turn, turns, do_turns, copies, at_label, at_break, Case, cases_of, bodies_from, default_bodies, chosen, selected, switch, handled, resume, finally, try_catch, declare, copied_names, first_tree, for_loop, shape_if, shape_return, template_text, type_of_name, act, eval, evals}
+use Rattle.swc_ast.specs.Scope.{case_statements, default_name}
+use Rattle.swc_ast.specs.Meaning.{◌>>=◌, gives, in_core, is_unresolved, read, write, initialise, Scope, numbered, in_scope, get, put, Caller, get_at, put_at, shape0, shape1, shape2, shape3, shape1+, shape2+, all_values, in_turn, run_all, item_values, array_items, merged, object_fields, key_text, operate, operator_of, assign, in_list_scope, plain, has_label, after_jump, turn, turns, do_turns, copies, at_label, at_break, Case, cases_of, bodies_from, default_bodies, chosen, selected, switch, handled, resume, finally, try_catch, declare, copied_names, first_tree, for_loop, shape_if, shape_return, template_text, type_of_name, act, eval, evals}
 use Rattle.expr_steps.proofs.Runs.{bind_same, bind_chain}
-use Rattle.branch_rules.specs.Jumps.{Kinds, escapes, some_escape}
+use Rattle.branch_rules.specs.Jumps.{Kinds, in_loop, is_label, escapes_behind, escapes, some_escape}
 use Rattle.branch_steps.proofs.Leaving.{Stays, Keeps}
 use Rattle.branch_rules.specs.Once.{labelling}
 use Rattle.branch_steps.proofs.Loops.{given}
+use Rattle.branch_steps.proofs.Relabelled.{relabel, Follows, copies_follow, gives_follow, followed, Covered, covered_itself, covered_label, not_not}
 use Rattle.branch_steps.proofs.JumpParts.{or_left, or_right}
 use Rattle.branch_steps.proofs.Jumps.{passes, tree_keeps}
 use mathlib.Core.Path.{fun_ext}
-
-abbrev pub relabel : List (List ℕ) → Context → Context
-relabel ls c = record c { labels = ls }
 
 -- labels do not matter
 abbrev pub Steady : Meaning → Type 0
@@ -156,57 +154,55 @@ try_same p b h f hb hh hf ls c = fun_ext (λ s. finally_same f hf ls c _ ∙ ap 
 
 -- loops
 
-turn_labels : (ls ks : List (List ℕ)) (o : Outcome Value) → Stays labelling o → turn ls o ≡ turn ks o
+or_false : (b : Bool) → (b || false) ≡ true → b ≡ true
+or_false true h = refl
+or_false false h = absurd (false≢true h)
+
+turn_labels : (near : Option Text) (ls ks : List (List ℕ)) → Covered near None ls → Covered near None ks → (o : Outcome Value) → Stays (in_loop near labelling) o → turn ls o ≡ turn ks o
 unfolding turn
-turn_labels ls ks (Done v s) h = refl
-turn_labels ls ks (Jumps (Broken None) s) h = refl
-turn_labels ls ks (Jumps (Broken (Some l)) s) h = refl
-turn_labels ls ks (Jumps (Continued None) s) h = refl
-turn_labels ls ks (Jumps (Continued (Some l)) s) h = absurd (true≢false h)
-turn_labels ls ks (Jumps (Returned v) s) h = refl
-turn_labels ls ks (Jumps (Thrown v) s) h = refl
-turn_labels ls ks Outside h = refl
-turn_labels ls ks Cut h = refl
+turn_labels near ls ks f g (Done v s) h = refl
+turn_labels near ls ks f g (Jumps (Broken None) s) h = refl
+turn_labels near ls ks f g (Jumps (Broken (Some l)) s) h = refl
+turn_labels near ls ks f g (Jumps (Continued None) s) h = refl
+turn_labels near ls ks f g (Jumps (Continued (Some l)) s) h = ap (λ b. after_jump (if b then Some true else None) (Continued (Some l)) s) (or_false (has_label l ls) (f.by l (not_not (is_label l near) h)) ∙ sym (or_false (has_label l ks) (g.by l (not_not (is_label l near) h))))
+turn_labels near ls ks f g (Jumps (Returned v) s) h = refl
+turn_labels near ls ks f g (Jumps (Thrown v) s) h = refl
+turn_labels near ls ks f g Outside h = refl
+turn_labels near ls ks f g Cut h = refl
 
--- the context of the next turn has the same labels
-abbrev Follows : (Context → Run Context) → Type 0
-Follows next = (ls : List (List ℕ)) (c : Context) → next (relabel ls c) ≡ (next c >>= λ d. gives (relabel ls d))
+-- loops under labels that both cover the one in front
+module _ (near : Option Text) (ls ks : List (List ℕ)) (covers : Covered near None ls) (still : Covered near None ks) where
+  turns_same : (n : ℕ) (t b u : Meaning) (next : Context → Run Context) → ((c : Context) → Keeps (in_loop near labelling) (b c)) → Follows next → (c : Context) → turns n t b next u (relabel ls c) ≡ turns n t b next u (relabel ks c)
+  unfolding turns
+  turns_same zero t b u next hb hn c = refl
+  turns_same (suc n) t b u next hb hn c =
+      bind_same (t (plain c)) (λ v. if_run_same (truthy v)
+      (same_then (fun_ext (λ s. turn_labels near ls ks covers still (b (plain c) s) ((hb (plain c)).by s))) (λ goes_on. if_run_same goes_on
+      (followed next hn ls c (λ d. u (plain d) >>= λ w. turns n t b next u d) ∙ bind_same (next c) (λ d. bind_same (u (plain d)) (λ w. turns_same n t b u next hb hn d)) ∙ sym (followed next hn ks c (λ d. u (plain d) >>= λ w. turns n t b next u d)))
+      refl)) refl)
 
-turns_same : (n : ℕ) (t b u : Meaning) (next : Context → Run Context) → ((c : Context) → Keeps labelling (b c)) → Follows next → Steady (turns n t b next u)
-unfolding turns
-turns_same zero t b u next hb hn ls c = refl
-turns_same (suc n) t b u next hb hn ls c =
-    bind_same (t (plain c)) (λ v. if_run_same (truthy v)
-    (same_then (fun_ext (λ s. turn_labels ls c.labels (b (plain c) s) ((hb (plain c)).by s))) (λ goes_on. if_run_same goes_on
-    (ap (λ (m : Run Context). m >>= λ d. u (plain d) >>= λ w. turns n t b next u d) (hn ls c) ∙ bind_chain (next c) (λ d. gives (relabel ls d)) (λ d. u (plain d) >>= λ w. turns n t b next u d) ∙ bind_same (next c) (λ d. given (relabel ls d) (λ e. u (plain e) >>= λ w. turns n t b next u e) ∙ bind_same (u (plain d)) (λ w. turns_same n t b u next hb hn ls d)))
-    refl)) refl)
+  do_turns_same : (n : ℕ) (b t : Meaning) → ((c : Context) → Keeps (in_loop near labelling) (b c)) → (c : Context) → do_turns n b t (relabel ls c) ≡ do_turns n b t (relabel ks c)
+  unfolding do_turns
+  do_turns_same zero b t hb c = refl
+  do_turns_same (suc n) b t hb c = same_then (fun_ext (λ s. turn_labels near ls ks covers still (b (plain c) s) ((hb (plain c)).by s))) (λ goes_on. if_run_same goes_on (bind_same (t (plain c)) (λ v. if_run_same (truthy v) (do_turns_same n b t hb c) refl)) refl)
 
-do_turns_same : (n : ℕ) (b t : Meaning) → ((c : Context) → Keeps labelling (b c)) → Steady (do_turns n b t)
-unfolding do_turns
-do_turns_same zero b t hb ls c = refl
-do_turns_same (suc n) b t hb ls c = same_then (fun_ext (λ s. turn_labels ls c.labels (b (plain c) s) ((hb (plain c)).by s))) (λ goes_on. if_run_same goes_on (bind_same (t (plain c)) (λ v. if_run_same (truthy v) (do_turns_same n b t hb ls c) refl)) refl)
+  env_same : (binds : Name → Bool) (cells : Env → Scope) (m : Meaning) (c : Context) → ((e : Env) → m (relabel ls (record c { env = e })) ≡ m (relabel ks (record c { env = e }))) → in_scope binds cells m (relabel ls c) ≡ in_scope binds cells m (relabel ks c)
+  unfolding in_scope
+  env_same binds cells m c h = fun_ext (λ s. run_same (h (numbered binds c.env s)) _)
 
-copies_follow : (names : List Declared) → Follows (copies names)
-unfolding copies in_scope and_then
-copies_follow names ls c = refl
-
-gives_follow : Follows gives
-unfolding and_then
-gives_follow ls c = refl
+  for_same : (n : ℕ) (head : Tree) (i t u b : Meaning) → ((c : Context) → Keeps (in_loop near labelling) (b c)) → (c : Context) → for_loop n head i t u b (relabel ls c) ≡ for_loop n head i t u b (relabel ks c)
+  unfolding for_loop
+  for_same n head i t u b hb c = env_same _ _ (λ d. i (plain d) >>= λ v. copies (copied_names head) d >>= λ e. turns n t b (copies (copied_names head)) u e) c (λ e. inner (record c { env = e }))
+    where
+      inner : (d : Context) → (i (plain d) >>= λ v. copies (copied_names head) (relabel ls d) >>= λ e. turns n t b (copies (copied_names head)) u e) ≡ (i (plain d) >>= λ v. copies (copied_names head) (relabel ks d) >>= λ e. turns n t b (copies (copied_names head)) u e)
+      inner d = bind_same (i (plain d)) (λ v.
+          followed (copies (copied_names head)) (copies_follow (copied_names head)) ls d (λ e. turns n t b (copies (copied_names head)) u e)
+          ∙ bind_same (copies (copied_names head) d) (λ e. turns_same n t b u (copies (copied_names head)) hb (copies_follow (copied_names head)) e)
+          ∙ sym (followed (copies (copied_names head)) (copies_follow (copied_names head)) ks d (λ e. turns n t b (copies (copied_names head)) u e)))
 
 first_same : (v : Value) (ls : List (List ℕ)) (c : Context) → initialise default_name v (relabel ls c) ≡ initialise default_name v c
 unfolding initialise
 first_same v ls c = refl
-
-for_same : (n : ℕ) (head : Tree) (i t u b : Meaning) → ((c : Context) → Keeps labelling (b c)) → Steady (for_loop n head i t u b)
-unfolding for_loop
-for_same n head i t u b hb ls c = scope_same _ _ (λ d. i (plain d) >>= λ v. copies (copied_names head) d >>= λ e. turns n t b (copies (copied_names head)) u e) inner ls c
-  where
-    inner : Steady (λ d. i (plain d) >>= λ v. copies (copied_names head) d >>= λ e. turns n t b (copies (copied_names head)) u e)
-    inner ks d = bind_same (i (plain d)) (λ v.
-        ap (λ (m : Run Context). m >>= λ e. turns n t b (copies (copied_names head)) u e) (copies_follow (copied_names head) ks d)
-        ∙ bind_chain (copies (copied_names head) d) (λ e. gives (relabel ks e)) (λ e. turns n t b (copies (copied_names head)) u e)
-        ∙ bind_same (copies (copied_names head) d) (λ e. given (relabel ks e) (λ e. turns n t b (copies (copied_names head)) u e) ∙ turns_same n t b u (copies (copied_names head)) hb (copies_follow (copied_names head)) ks e))
 
 -- a switch
 
@@ -321,27 +317,34 @@ module _ (mark n : ℕ) (call : Caller) (kept : (g : Kinds) (f this : Value) (ar
   mutual
     unfolding eval evals act
 
-    pub tree_same : (t : Tree) → escapes labelling t ≡ false → Steady (eval mark n call t)
-    tree_same (node (Break o) ss ε) e ls c = refl
-    tree_same (node (Break o) ss (t ⊳ ts)) e ls c = refl
-    tree_same (node (Continue o) ss ε) e ls c = refl
-    tree_same (node (Continue o) ss (t ⊳ ts)) e ls c = refl
-    tree_same (node (Fn o) ss cs) e ls c = refl
-    tree_same (node Arrow ss cs) e ls c = refl
-    tree_same (node (FnDecl x) ss cs) e ls c = refl
-    tree_same (node (ExportDefaultFn o) ss cs) e ls c = refl
-    tree_same (node Method ss (k ⊳ p ⊳ b ⊳ ε)) e ls c = same_then (tree_same k e ls c) (λ w. refl)
-    tree_same (node Method ss _) e ls c = refl
-    tree_same (node While ss (t ⊳ b ⊳ ε)) e ls c = turns_same n (eval mark n call t) (eval mark n call b) (λ d. gives Undefined) gives (tree_keeps mark n call kept b labelling (or_right _ _ e)) gives_follow ls c
-    tree_same (node While ss _) e ls c = refl
-    tree_same (node DoWhile ss (b ⊳ t ⊳ ε)) e ls c = do_turns_same n (eval mark n call b) (eval mark n call t) (tree_keeps mark n call kept b labelling (or_left _ _ e)) ls c
-    tree_same (node DoWhile ss _) e ls c = refl
-    tree_same (node For ss (i ⊳ t ⊳ u ⊳ b ⊳ ε)) e ls c = for_same n (first_tree (i ⊳ t ⊳ u ⊳ b ⊳ ε)) (eval mark n call i) (eval mark n call t) (eval mark n call u) (eval mark n call b) (tree_keeps mark n call kept b labelling (or_right (escapes labelling u) _ (or_right (escapes labelling t) _ (or_right (escapes labelling i) _ e)))) ls c
-    tree_same (node For ss _) e ls c = refl
-    tree_same (node (Switch ds) ss ε) e ls c = refl
-    tree_same (node (Switch ds) ss (d ⊳ cs)) e ls c = switch_same (d ⊳ cs) ds (evals mark n call cs) (eval mark n call d) (tree_same d (or_left _ _ e)) (trees_same cs (or_right _ _ e)) ls c
-    tree_same (node l ss cs) e ls c = act_same l ss cs (evals mark n call cs) (trees_same cs e) refl ls c
+    behind_same : (t : Tree) (near : Option Text) → escapes_behind near labelling t ≡ false → (ls ks : List (List ℕ)) → Covered near None ls → Covered near None ks → (c : Context) → eval mark n call t (relabel ls c) ≡ eval mark n call t (relabel ks c)
+    behind_same (node (Break o) ss ε) near e ls ks f g c = refl
+    behind_same (node (Break o) ss (t ⊳ ts)) near e ls ks f g c = refl
+    behind_same (node (Continue o) ss ε) near e ls ks f g c = refl
+    behind_same (node (Continue o) ss (t ⊳ ts)) near e ls ks f g c = refl
+    behind_same (node (Fn o) ss cs) near e ls ks f g c = refl
+    behind_same (node Arrow ss cs) near e ls ks f g c = refl
+    behind_same (node (FnDecl x) ss cs) near e ls ks f g c = refl
+    behind_same (node (ExportDefaultFn o) ss cs) near e ls ks f g c = refl
+    behind_same (node Method ss (k ⊳ p ⊳ b ⊳ ε)) near e ls ks f g c = same_then (behind_same k None e ls ks (covered_itself None ls) (covered_itself None ks) c) (λ w. refl)
+    behind_same (node Method ss _) near e ls ks f g c = refl
+    behind_same (node While ss (t ⊳ b ⊳ ε)) near e ls ks f g c = turns_same near ls ks f g n (eval mark n call t) (eval mark n call b) (λ d. gives Undefined) gives (tree_keeps mark n call kept b (in_loop near labelling) (or_right _ _ e)) gives_follow c
+    behind_same (node While ss _) near e ls ks f g c = refl
+    behind_same (node DoWhile ss (b ⊳ t ⊳ ε)) near e ls ks f g c = do_turns_same near ls ks f g n (eval mark n call b) (eval mark n call t) (tree_keeps mark n call kept b (in_loop near labelling) (or_left _ _ e)) c
+    behind_same (node DoWhile ss _) near e ls ks f g c = refl
+    behind_same (node For ss (i ⊳ t ⊳ u ⊳ b ⊳ ε)) near e ls ks f g c = for_same near ls ks f g n (first_tree (i ⊳ t ⊳ u ⊳ b ⊳ ε)) (eval mark n call i) (eval mark n call t) (eval mark n call u) (eval mark n call b) (tree_keeps mark n call kept b (in_loop near labelling) (or_right (escapes labelling u) _ (or_right (escapes labelling t) _ (or_right (escapes labelling i) _ e)))) c
+    behind_same (node For ss _) near e ls ks f g c = refl
+    behind_same (node (Labeled l) ss (t ⊳ ε)) near e ls ks f g c = fun_ext (λ s. ap (λ (r : Run Value). at_label l (r s)) (behind_same t (Some l) e (l ∷ ls) (l ∷ ks) (covered_label l None ls) (covered_label l None ks) c))
+    behind_same (node (Labeled l) ss _) near e ls ks f g c = refl
+    behind_same (node (Switch ds) ss ε) near e ls ks f g c = refl
+    behind_same (node (Switch ds) ss (d ⊳ cs)) near e ls ks f g c =
+        let p : Steady (eval mark n call d) = λ js k. behind_same d None (or_left _ _ e) js k.labels (covered_itself None js) (covered_itself None k.labels) k in
+        switch_same (d ⊳ cs) ds (evals mark n call cs) (eval mark n call d) p (trees_same cs (or_right _ _ e)) ls c ∙ sym (switch_same (d ⊳ cs) ds (evals mark n call cs) (eval mark n call d) p (trees_same cs (or_right _ _ e)) ks c)
+    behind_same (node l ss cs) near e ls ks f g c = act_same l ss cs (evals mark n call cs) (trees_same cs e) refl ls c ∙ sym (act_same l ss cs (evals mark n call cs) (trees_same cs e) refl ks c)
 
-    pub trees_same : (ts : Forest) → some_escape labelling ts ≡ false → Each (evals mark n call ts)
+    trees_same : (ts : Forest) → some_escape labelling ts ≡ false → Each (evals mark n call ts)
     trees_same ε e = tt
-    trees_same (t ⊳ ts) e = (tree_same t (or_left _ _ e), trees_same ts (or_right _ _ e))
+    trees_same (t ⊳ ts) e = ((λ js k. behind_same t None (or_left _ _ e) js k.labels (covered_itself None js) (covered_itself None k.labels) k), trees_same ts (or_right _ _ e))
+
+  pub tree_same : (t : Tree) → escapes labelling t ≡ false → Steady (eval mark n call t)
+  tree_same t e ls c = behind_same t None e ls c.labels (covered_itself None ls) (covered_itself None c.labels) c

@@ -13,6 +13,7 @@ pub mod Loops
 pub mod Statements
 pub mod Declared
 pub mod Expressions
+pub mod Relabelled
 pub mod JumpParts
 pub mod Jumps
 pub mod Unbroken
@@ -49,6 +50,7 @@ pub mod StatementsOwe
 pub mod TidiedOwe
 pub mod ExpressionsOwe
 pub mod SwitchOwes
+pub mod AimedRest
 pub mod DoOwes
 pub mod Owes
 pub mod Resting
