@@ -10,12 +10,12 @@ ghost use Rattle.swc_ast.specs.Valid.{valid};
 use std::alloc::Global;
 use swc_ast::{Mark, Module, PassError};
 
-/// `swc_resolved::is_core`
+/// `core_trees::is_core`
 pub fn is_core(alloc: Global, m: &Module) -> Result<bool, PassError>
     ensures answer { IfOk result (λ b. valid (module_tree m.now) ≡ true → (IsTrue b ↔ IsCore (module_tree m.now))) }
     ensures error { IfErr result (λ e. e ≡ OutOfMemory) }
 {
-    swc_resolved::is_core(alloc, m)
+    core_trees::is_core(alloc, m)
 }
 
 /// `swc_resolved::is_resolved`
@@ -26,14 +26,14 @@ pub fn is_resolved(alloc: Global, m: &Module, unresolved_mark: Mark) -> Result<b
     swc_resolved::is_resolved(alloc, m, unresolved_mark)
 }
 
-/// `swc_resolved::is_valid_and_resolved`
-pub fn is_valid_and_resolved(
+/// `swc_resolved::is_core_and_resolved`
+pub fn is_core_and_resolved(
     alloc: Global,
     m: &Module,
     unresolved_mark: Mark,
 ) -> Result<bool, PassError>
-    ensures answer { IfOk result (λ b. IsTrue b ↔ (valid (module_tree m.now) ≡ true) × IsResolved (mark_number unresolved_mark) (module_tree m.now)) }
+    ensures answer { IfOk result (λ b. IsTrue b ↔ IsCore (module_tree m.now) × IsResolved (mark_number unresolved_mark) (module_tree m.now)) }
     ensures error { IfErr result (λ e. e ≡ OutOfMemory) }
 {
-    swc_resolved::is_valid_and_resolved(alloc, m, unresolved_mark)
+    swc_resolved::is_core_and_resolved(alloc, m, unresolved_mark)
 }

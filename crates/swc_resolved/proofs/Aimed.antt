@@ -1,5 +1,5 @@
 -- What jumps in the children of a node may go to that is no function and no target.
-use Rattle.std.proofs.Common.{◌≡◌, ℕ, ◌<◌, List, [], ◌∷◌, length, map, refl, ap, sym, arith}
+use Rattle.std.proofs.Common.{◌≡◌, ◌<◌, List, [], ◌∷◌, length, map, refl, ap, arith}
 use Rattle.swc_ast.specs.Tree.{Text}
 use Rattle.swc_ast.specs.Resolved.{Targets, below}
 use Rattle.swc_visit.specs.Kinds.{kind_label}

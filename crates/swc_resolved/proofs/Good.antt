@@ -8,7 +8,8 @@ use Rattle.swc_ast.specs.Resolved.{Targets, below, jump_is_aimed, aimed, aimed_a
 use Rattle.swc_ast.specs.Valid.{good_names, good_shape, valid, valid_all}
 use Rattle.swc_visit.specs.Nodes.{label_of, children_of}
 use Rattle.swc_resolved.specs.Scopes.{own_apart, Binds}
-use Rattle.swc_resolved.specs.Asked.{own_good, good, good_all, Passes}
+use Rattle.swc_resolved.specs.Here.{own_core, core_here, all_core_here}
+use Rattle.swc_resolved.specs.Asked.{own_fit, own_good, good, good_all, Passes}
 use Rattle.swc_resolved.proofs.Binding as binding
 
 -- two conjunctions, part by part
@@ -20,14 +21,14 @@ exchanged false b c d = refl
 
 -- a node and its children
 
-valid_split : (v : Bool) (l : Label) (ss : _) (cs : Forest) → (if v then valid (node l ss cs) else true) ≡ ((if v then good_names l && good_shape l cs else true) && (if v then valid_all cs else true))
-valid_split true l ss cs = refl
+valid_split : (v : Bool) (l : Label) (ss : _) (cs : Forest) → (if v then valid (node l ss cs) && core_here (node l ss cs) else true) ≡ (own_fit v l cs && (if v then valid_all cs && all_core_here cs else true))
+valid_split true l ss cs = exchanged (good_names l && good_shape l cs) (valid_all cs) (own_core l cs) (all_core_here cs)
 valid_split false l ss cs = refl
 
 split : (v : Bool) (g : Targets) (t : Tree) → good v g t ≡ (own_good v g (label_of t) (children_of t) && good_all v (below (label_of t) g) (children_of t))
 split v g (node l ss cs) =
     ap₂ ◌&&◌ (valid_split v l ss cs) (exchanged (jump_is_aimed l g) (aimed_all (below l g) cs) (own_apart l cs) (apart_all cs))
-    ∙ exchanged (if v then good_names l && good_shape l cs else true) (if v then valid_all cs else true) (jump_is_aimed l g && own_apart l cs) (aimed_all (below l g) cs && apart_all cs)
+    ∙ exchanged (own_fit v l cs) (if v then valid_all cs && all_core_here cs else true) (jump_is_aimed l g && own_apart l cs) (aimed_all (below l g) cs && apart_all cs)
 
 pub split_as : (b : Bool) (v : Bool) (g : Targets) (t : Tree) (l : Label) (cs : Forest) → label_of t ≡ l → children_of t ≡ cs → own_good v g l cs ≡ b → good v g t ≡ (b && good_all v (below l g) cs)
 split_as b v g t l cs labelled held own = split v g t ∙ cc (labelled, held, own)
@@ -49,14 +50,14 @@ last_below r v g t l cs old mid new labelled held own first rest = IfOk-weaker r
 
 -- trees in a row
 
-valid_first : (v : Bool) (t : Tree) (ts : Forest) → (if v then valid_all (t ⊳ ts) else true) ≡ ((if v then valid t else true) && (if v then valid_all ts else true))
-valid_first true t ts = refl
+valid_first : (v : Bool) (t : Tree) (ts : Forest) → (if v then valid_all (t ⊳ ts) && all_core_here (t ⊳ ts) else true) ≡ ((if v then valid t && core_here t else true) && (if v then valid_all ts && all_core_here ts else true))
+valid_first true t ts = exchanged (valid t) (valid_all ts) (core_here t) (all_core_here ts)
 valid_first false t ts = refl
 
 first_of : (v : Bool) (g : Targets) (t : Tree) (ts : Forest) → good_all v g (t ⊳ ts) ≡ (good v g t && good_all v g ts)
 first_of v g t ts =
     ap₂ ◌&&◌ (valid_first v t ts) (exchanged (aimed g t) (aimed_all g ts) (apart t) (apart_all ts))
-    ∙ exchanged (if v then valid t else true) (if v then valid_all ts else true) (aimed g t && apart t) (aimed_all g ts && apart_all ts)
+    ∙ exchanged (if v then valid t && core_here t else true) (if v then valid_all ts && all_core_here ts else true) (aimed g t && apart t) (aimed_all g ts && apart_all ts)
 
 first_as : (v : Bool) (g : Targets) (t : Tree) (ts us : Forest) → us ≡ t ⊳ ts → good_all v g us ≡ (good v g t && good_all v g ts)
 first_as v g t ts us is = ap (good_all v g) is ∙ first_of v g t ts

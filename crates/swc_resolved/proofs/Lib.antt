@@ -7,6 +7,7 @@ pub mod Binding
 pub mod Specifiers
 pub mod Beside
 pub mod Good
+pub mod Placed
 pub mod Verdict
 pub mod Once
-pub mod Fits
+pub mod Lists

@@ -1,18 +1,25 @@
 -- Whether a tree is resolved, from its parts.
-use Rattle.std.proofs.Common.{◌≡◌, ℕ, ◌+◌, ◌≤◌, Bool, true, false, not, ◌&&◌, refl, sym, ap, ap₂, subst, ◌∙◌, arith}
+use Rattle.std.proofs.Common.{◌≡◌, ℕ, ◌+◌, ◌≤◌, Bool, true, false, not, ◌&&◌, [], refl, sym, ap, ap₂, ◌∙◌, arith}
 use Rattle.std.proofs.lemmas.Bool.{false≢true, and_parts}
 use Rattle.std.specs.Bool.{MatchBool}
-use Rattle.std.specs.Prelude.{◌↔◌, IsTrue, if◌then◌else◌}
+use Rattle.std.specs.Prelude.{◌↔◌, IsTrue}
+use Rattle.swc_ast.specs.declared.expressions.Expr.{Expr}
 use Rattle.swc_ast.specs.Tree.{Name, Label, Tree, Forest}
+use Rattle.swc_ast.specs.Views.{expr_tree}
 use Rattle.swc_ast.specs.Meaning.{is_unresolved}
 use Rattle.swc_ast.specs.Resolved.{one_if, is_default, own_scopes, scopes, scopes_all, no_targets, below, aimed, apart, own_exports_bound, IsResolved}
+use Rattle.swc_ast.specs.Core.{IsCore}
 use Rattle.swc_ast.specs.Valid.{valid}
+use Rattle.swc_static.specs.Shaped.{IsShaped}
+use Rattle.swc_static.proofs.ShapedViews.{expr_shaped}
 use Rattle.swc_visit.specs.Nodes.{label_of, children_of}
 use Rattle.swc_resolved.specs.Names.{is_free}
+use Rattle.swc_resolved.specs.Here.{core_here}
 use Rattle.swc_resolved.specs.Scopes.{Binds, BindsWell}
 use Rattle.swc_resolved.specs.Asked.{own_good, good, good_all, Passes, IsAsked}
 use Rattle.swc_resolved.proofs.Binding.{scopes_as}
 use Rattle.swc_resolved.proofs.Good.{split_as}
+use Rattle.swc_resolved.proofs.Placed.{seen, unseen, resolved_here}
 
 -- from what is bound
 
@@ -60,7 +67,7 @@ well_bound mark t r = ((λ x. none_free (is_unresolved mark x) (is_default x) (s
 pub refused : {P : Type 0} → (P → ⊥) → IsTrue false ↔ P
 refused f = ((λ h. absurd (false≢true h)), (λ p. absurd (f p)))
 
--- validity too, where it is asked for
+-- validity and the core too, where they are asked for
 
 asked_resolved : (v : Bool) (mark : ℕ) (t : Tree) → IsAsked v mark t → IsResolved mark t
 asked_resolved true mark t asked = asked.1
@@ -78,7 +85,7 @@ asked_good false mark t asked = jumps_and_params mark t asked
 
 all_asked : (v : Bool) (mark : ℕ) (t : Tree) → good v no_targets t ≡ true → BindsWell mark t → IsAsked v mark t
 all_asked true mark t is well =
-    let parts = and_parts (valid t) (aimed no_targets t && apart t) is in let both = and_parts (aimed no_targets t) (apart t) parts.1 in
+    let parts = and_parts (valid t && core_here t) (aimed no_targets t && apart t) is in let both = and_parts (aimed no_targets t) (apart t) parts.1 in
     (parts.0, resolved mark t well both.0 both.1)
 all_asked false mark t is well = let both = and_parts (aimed no_targets t) (apart t) is in resolved mark t well both.0 both.1
 
@@ -93,3 +100,14 @@ decided true v mark old mid new t l cs labelled held own free first exports pass
     ((λ is. all_asked v mark t (split_as true v no_targets t l cs labelled held own ∙ passes.0) (bound_late true mark old mid new t l cs labelled held free first exports passes.1)), (λ asked. refl))
 decided false v mark old mid new t l cs labelled held own free first exports passes =
     refused (λ asked. bound_late false mark old mid new t l cs labelled held free first exports (passes (sym (split_as true v no_targets t l cs labelled held own) ∙ asked_good v mark t asked)) (well_asked v mark t asked))
+
+-- a whole module or script, which is core where each of its nodes is so by itself
+pub core_told : (b : Bool) (mark : ℕ) (t : Tree) → IsShaped t → seen t ≡ [] → (IsTrue b ↔ IsAsked true mark t) → IsTrue b ↔ IsCore t × IsResolved mark t
+core_told b mark t shaped none told = (
+  (λ is. let asked = told.0 is in let parts = and_parts (valid t) (core_here t) asked.0 in (record { is_valid = parts.0; fits_core = resolved_here mark t shaped.shaped none asked.1 ∙ parts.1 }, asked.1)),
+  (λ both. told.1 (ap₂ (λ a c. a && c) both.0.is_valid (sym (resolved_here mark t shaped.shaped none both.1) ∙ both.0.fits_core), both.1)),
+)
+
+-- the same of an expression by itself
+pub expr_told : (b : Bool) (mark : ℕ) (e : Expr) → (IsTrue b ↔ IsAsked true mark (expr_tree e)) → IsTrue b ↔ IsCore (expr_tree e) × IsResolved mark (expr_tree e)
+expr_told b mark e = let good = expr_shaped e in core_told b mark (expr_tree e) (record { shaped = good.shaped }) (unseen (expr_tree e) good.stands)

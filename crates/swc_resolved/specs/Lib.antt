@@ -4,4 +4,5 @@ pub mod Parts
 pub mod Scopes
 pub mod Exports
 pub mod Once
+pub mod Here
 pub mod Asked

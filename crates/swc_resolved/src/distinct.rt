@@ -9,10 +9,7 @@ use std::alloc::{AllocError, Global};
 
 /// The set of some names; none where one stands among them twice. Fails where memory is refused.
 #[tactic(auto, using(crate::proofs::Once::one_twice))]
-pub(crate) fn set_of<'a>(
-    names: &[Name<'a>],
-    alloc: Global,
-) -> Result<Option<NameSet<'a>>, AllocError>
+fn set_of<'a>(names: &[Name<'a>], alloc: Global) -> Result<Option<NameSet<'a>>, AllocError>
     ensures once { IfOk result (EachOnce (names_of names.now)) }
     ensures members { IfOk result (λ o. IfSome o (AreMembers (names_of names.now))) }
 {
@@ -25,6 +22,37 @@ pub(crate) fn set_of<'a>(
         left = rest;
     }
     Ok(Some(set))
+}
+
+/// Whether names stand in a list once each. Fails where memory is refused.
+pub(crate) fn are_distinct<'a>(names: &[Name<'a>], alloc: Global) -> Result<bool, AllocError>
+    ensures { IfOk result (λ b. b ≡ once_each (names_of names.now) (names_of names.now)) }
+{
+    match names {
+        [] => Ok(true),
+        [_] => Ok(true),
+        _ => match set_of(names, alloc)? {
+            None => Ok(false),
+            Some(_) => Ok(true),
+        },
+    }
+}
+
+/// Whether names stand in a list once each, and none of them in another. Fails where memory is refused.
+pub(crate) fn are_apart<'a>(
+    names: &[Name<'a>],
+    others: &[Name<'a>],
+    alloc: Global,
+) -> Result<bool, AllocError>
+    ensures { IfOk result (λ b. b ≡ (once_each (names_of names.now) (names_of names.now) && none_in (names_of names.now) (names_of others.now))) }
+{
+    match names {
+        [] => Ok(true),
+        _ => match set_of(names, alloc)? {
+            None => Ok(false),
+            Some(set) => Ok(set.has_none(others)),
+        },
+    }
 }
 
 impl<'a> NameSet<'a> {

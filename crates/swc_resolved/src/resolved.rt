@@ -1,10 +1,11 @@
 //! Whether a tree is resolved.
-ghost use Rattle.std.specs.Prelude.{◌≡◌, ◌↔◌, true, IsTrue, IfOk, IfErr};
+ghost use Rattle.std.specs.Prelude.{◌≡◌, ◌↔◌, IsTrue, IfOk, IfErr};
 ghost use Rattle.swc_ast.specs.declared.errors.PassError.TheVariants.{OutOfMemory};
+ghost use Rattle.swc_ast.specs.Core.{IsCore};
 ghost use Rattle.swc_ast.specs.Marks.{mark_number};
 ghost use Rattle.swc_ast.specs.Modules.{module_tree, script_tree};
 ghost use Rattle.swc_ast.specs.Resolved.{IsResolved};
-ghost use Rattle.swc_ast.specs.Valid.{valid};
+ghost use Rattle.swc_ast.specs.Views.{expr_tree};
 ghost use Rattle.swc_visit.specs.Nodes.{node_tree};
 ghost use Rattle.swc_resolved.specs.Asked.{IsAsked};
 
@@ -12,7 +13,8 @@ use crate::jumps::Targets;
 use crate::names::Taken;
 use crate::walk::is_own_good;
 use std::alloc::{AllocError, Global};
-use swc_ast::{Mark, Module, PassError, Script};
+use swc_ast::{Expr, Mark, Module, PassError, Script};
+use swc_static::laws;
 use swc_visit::Node;
 
 /// Returns whether a module is resolved for a mark: each name is bound by at most one scope, no unresolved
@@ -40,46 +42,60 @@ pub fn is_script_resolved(
     Ok(answer)
 }
 
-/// Returns whether a module is valid and resolved for a mark, as `swc_debug::is_valid` and `is_resolved` do, in one walk. Fails if
-/// memory runs out.
-pub fn is_valid_and_resolved(
+/// Returns whether a module is in the core and resolved for a mark, in one walk. Fails if memory runs out.
+pub fn is_core_and_resolved(
     alloc: Global,
     m: &Module,
     unresolved_mark: Mark,
 ) -> Result<bool, PassError>
-    ensures answer { IfOk result (λ b. IsTrue b ↔ (valid (module_tree m.now) ≡ true) × IsResolved (mark_number unresolved_mark) (module_tree m.now)) }
+    ensures answer { IfOk result (λ b. IsTrue b ↔ IsCore (module_tree m.now) × IsResolved (mark_number unresolved_mark) (module_tree m.now)) }
     ensures error { IfErr result (λ e. e ≡ OutOfMemory) }
 {
+    laws();
     let answer = is_asked(Node::Module(m), true, unresolved_mark, alloc)?;
     Ok(answer)
 }
 
 /// The same for a script, which has no exports.
-pub fn is_script_valid_and_resolved(
+pub fn is_script_core_and_resolved(
     alloc: Global,
     s: &Script,
     unresolved_mark: Mark,
 ) -> Result<bool, PassError>
-    ensures answer { IfOk result (λ b. IsTrue b ↔ (valid (script_tree s.now) ≡ true) × IsResolved (mark_number unresolved_mark) (script_tree s.now)) }
+    ensures answer { IfOk result (λ b. IsTrue b ↔ IsCore (script_tree s.now) × IsResolved (mark_number unresolved_mark) (script_tree s.now)) }
     ensures error { IfErr result (λ e. e ≡ OutOfMemory) }
 {
+    laws();
     let answer = is_asked(Node::Script(s), true, unresolved_mark, alloc)?;
     Ok(answer)
 }
 
-/// Whether a tree is resolved, and valid where this is asked for.
+/// Returns the same of an expression by itself. Fails if memory runs out.
+pub fn is_expr_core_and_resolved(
+    alloc: Global,
+    e: &Box<Expr>,
+    unresolved_mark: Mark,
+) -> Result<bool, PassError>
+    ensures answer { IfOk result (λ b. IsTrue b ↔ IsCore (expr_tree e.now.value) × IsResolved (mark_number unresolved_mark) (expr_tree e.now.value)) }
+    ensures error { IfErr result (λ e. e ≡ OutOfMemory) }
+{
+    let answer = is_asked(Node::Expr(e), true, unresolved_mark, alloc)?;
+    Ok(answer)
+}
+
+/// Whether a tree is resolved, and valid and core node by node where this is asked for.
 #[tactic(auto, using(crate::proofs::Verdict::badly_placed, crate::proofs::Verdict::bound_early))]
 fn is_asked(
     n: Node<'_>,
-    valid_too: bool,
+    core_too: bool,
     unresolved_mark: Mark,
     alloc: Global,
 ) -> Result<bool, AllocError>
-    ensures { IfOk result (λ b. IsTrue b ↔ IsAsked valid_too (mark_number unresolved_mark) (node_tree n.entry)) }
+    ensures { IfOk result (λ b. IsTrue b ↔ IsAsked core_too (mark_number unresolved_mark) (node_tree n.entry)) }
 {
     let opened = n.open();
     let none = Targets::none();
-    if !is_own_good(opened.kind, opened.children, valid_too, &none, alloc)? {
+    if !is_own_good(opened.kind, opened.children, core_too, &none, alloc)? {
         return Ok(false);
     }
     let mut taken = Taken::new(unresolved_mark, alloc);
@@ -90,6 +106,6 @@ fn is_asked(
     if !taken.own_exports_bound(opened.kind, opened.children, unresolved_mark) {
         return Ok(false);
     }
-    let passes = taken.walk_below(opened.kind, opened.children, valid_too, &none, alloc)?;
+    let passes = taken.walk_below(opened.kind, opened.children, core_too, &none, alloc)?;
     Ok(passes)
 }

@@ -1,39 +1,62 @@
-//! One walk over a tree: what its scopes bind, whether jumps have targets and parameters stand apart, and validity where it is
-//! asked for.
+//! One walk over a tree: what its scopes bind, whether jumps have targets and parameters stand apart, and what the core asks of
+//! each node where it is asked for.
 ghost use Rattle.std.specs.Prelude.{◌≡◌, IfOk};
 ghost use Rattle.swc_ast.specs.Resolved.{below, scopes, scopes_all};
 ghost use Rattle.swc_visit.specs.Kinds.{kind_label};
 ghost use Rattle.swc_visit.specs.Nodes.{node_tree, children_forest};
 ghost use Rattle.swc_resolved.specs.Jumps.{targets};
 ghost use Rattle.swc_resolved.specs.Names.{is_taken};
-ghost use Rattle.swc_resolved.specs.Asked.{own_good, good, good_all, Passes};
+ghost use Rattle.swc_resolved.specs.Asked.{own_fit, own_good, good, good_all, Passes};
 
 use crate::apart::is_own_apart;
+use crate::here::is_own_core;
 use crate::jumps::{Targets, is_jump_aimed, joined};
 use crate::names::Taken;
 use std::alloc::{AllocError, Global};
 use swc_debug::{has_good_names, has_good_shape};
 use swc_visit::{Children, Kind, Node};
 
+/// Whether the node's names and its children are as validity wants them and the node is core by itself, where this is asked for.
+/// Fails where memory is refused.
+#[inline(always)]
+fn is_own_fit(
+    kind: Kind<'_>,
+    children: Children<'_>,
+    core_too: bool,
+    alloc: Global,
+) -> Result<bool, AllocError>
+    ensures { IfOk result (λ b. b ≡ own_fit core_too (kind_label kind.entry) (children_forest children.entry)) }
+{
+    if !core_too {
+        return Ok(true);
+    }
+    if !(has_good_names(kind) && has_good_shape(kind, children)) {
+        return Ok(false);
+    }
+    let is_fit = is_own_core(kind, children, alloc)?;
+    Ok(is_fit)
+}
+
 /// Whether a node that is a jump has a target, a function with a default declares no text of a parameter in its body, and, where
-/// validity is asked for, the node's names and its children are as validity wants them. Fails where memory is refused.
+/// the core is asked for, the node is as validity and the core want it. Fails where memory is refused.
 #[inline(always)]
 pub(crate) fn is_own_good(
     kind: Kind<'_>,
     children: Children<'_>,
-    valid_too: bool,
+    core_too: bool,
     g: &Targets<'_>,
     alloc: Global,
 ) -> Result<bool, AllocError>
-    ensures { IfOk result (λ b. b ≡ own_good valid_too (targets g.now) (kind_label kind.entry) (children_forest children.entry)) }
+    ensures { IfOk result (λ b. b ≡ own_good core_too (targets g.now) (kind_label kind.entry) (children_forest children.entry)) }
 {
-    if valid_too && !(has_good_names(kind) && has_good_shape(kind, children)) {
+    if !is_own_fit(kind, children, core_too, alloc)? {
         return Ok(false);
     }
     if !is_jump_aimed(kind, *g) {
         return Ok(false);
     }
-    is_own_apart(kind, children, alloc)
+    let is_apart = is_own_apart(kind, children, alloc)?;
+    Ok(is_apart)
 }
 
 impl<'a> Taken<'a> {
@@ -45,20 +68,20 @@ impl<'a> Taken<'a> {
     fn walk(
         &mut self,
         n: Node<'a>,
-        valid_too: bool,
+        core_too: bool,
         g: &Targets<'_>,
         alloc: Global,
     ) -> Result<bool, AllocError>
-        ensures { IfOk result (λ b. Passes b (good valid_too (targets g.now) (node_tree n.entry)) (is_taken self.old) (is_taken self.new) (λ x. scopes x (node_tree n.entry))) }
+        ensures { IfOk result (λ b. Passes b (good core_too (targets g.now) (node_tree n.entry)) (is_taken self.old) (is_taken self.new) (λ x. scopes x (node_tree n.entry))) }
     {
         let opened = n.open();
-        if !is_own_good(opened.kind, opened.children, valid_too, g, alloc)? {
+        if !is_own_good(opened.kind, opened.children, core_too, g, alloc)? {
             return Ok(false);
         }
         if !self.bind_own(opened.kind, opened.children, alloc)? {
             return Ok(false);
         }
-        self.walk_below(opened.kind, opened.children, valid_too, g, alloc)
+        self.walk_below(opened.kind, opened.children, core_too, g, alloc)
     }
 
     /// The same of the children of a node, where jumps at the node may go to `g`.
@@ -68,21 +91,21 @@ impl<'a> Taken<'a> {
         &mut self,
         kind: Kind<'a>,
         children: Children<'a>,
-        valid_too: bool,
+        core_too: bool,
         g: &Targets<'_>,
         alloc: Global,
     ) -> Result<bool, AllocError>
-        ensures { IfOk result (λ b. Passes b (good_all valid_too (below (kind_label kind.entry) (targets g.now)) (children_forest children.entry)) (is_taken self.old) (is_taken self.new) (λ x. scopes_all x (children_forest children.entry))) }
+        ensures { IfOk result (λ b. Passes b (good_all core_too (below (kind_label kind.entry) (targets g.now)) (children_forest children.entry)) (is_taken self.old) (is_taken self.new) (λ x. scopes_all x (children_forest children.entry))) }
     {
         match kind {
             Kind::Labeled(_) | Kind::While | Kind::DoWhile | Kind::For | Kind::Switch(_) => {
-                self.walk_inside(kind, children, valid_too, g, alloc)
+                self.walk_inside(kind, children, core_too, g, alloc)
             }
             Kind::Fn(_) | Kind::Arrow | Kind::Method | Kind::FnDecl(_) | Kind::ExportDefaultFn(_) =>
-                { self.walk_inside(kind, children, valid_too, g, alloc) }
+                { self.walk_inside(kind, children, core_too, g, alloc) }
             _ => match g.own {
-                [] => self.walk_all(children, valid_too, g, alloc),
-                _ => self.walk_inside(kind, children, valid_too, g, alloc),
+                [] => self.walk_all(children, core_too, g, alloc),
+                _ => self.walk_inside(kind, children, core_too, g, alloc),
             },
         }
     }
@@ -93,11 +116,11 @@ impl<'a> Taken<'a> {
         &mut self,
         kind: Kind<'a>,
         children: Children<'a>,
-        valid_too: bool,
+        core_too: bool,
         g: &Targets<'_>,
         alloc: Global,
     ) -> Result<bool, AllocError>
-        ensures { IfOk result (λ b. Passes b (good_all valid_too (below (kind_label kind.entry) (targets g.now)) (children_forest children.entry)) (is_taken self.old) (is_taken self.new) (λ x. scopes_all x (children_forest children.entry))) }
+        ensures { IfOk result (λ b. Passes b (good_all core_too (below (kind_label kind.entry) (targets g.now)) (children_forest children.entry)) (is_taken self.old) (is_taken self.new) (λ x. scopes_all x (children_forest children.entry))) }
     {
         match kind {
             Kind::Labeled(name) => {
@@ -108,7 +131,7 @@ impl<'a> Taken<'a> {
                     own: &own,
                     ..*g
                 };
-                self.walk_all(children, valid_too, &inner, alloc)
+                self.walk_all(children, core_too, &inner, alloc)
             }
             Kind::While | Kind::DoWhile | Kind::For => {
                 let loops = joined(g.own, g.loops, alloc)?;
@@ -119,7 +142,7 @@ impl<'a> Taken<'a> {
                     can_continue: true,
                     own: &[],
                 };
-                self.walk_all(children, valid_too, &inner, alloc)
+                self.walk_all(children, core_too, &inner, alloc)
             }
             Kind::Switch(_) => {
                 let inner = Targets {
@@ -127,13 +150,13 @@ impl<'a> Taken<'a> {
                     own: &[],
                     ..*g
                 };
-                self.walk_all(children, valid_too, &inner, alloc)
+                self.walk_all(children, core_too, &inner, alloc)
             }
             Kind::Fn(_) | Kind::Arrow | Kind::Method | Kind::FnDecl(_) | Kind::ExportDefaultFn(_) =>
-                { self.walk_all(children, valid_too, &Targets::none(), alloc) }
+                { self.walk_all(children, core_too, &Targets::none(), alloc) }
             _ => {
                 let inner = Targets { own: &[], ..*g };
-                self.walk_all(children, valid_too, &inner, alloc)
+                self.walk_all(children, core_too, &inner, alloc)
             }
         }
     }
@@ -144,15 +167,15 @@ impl<'a> Taken<'a> {
     fn walk_all(
         &mut self,
         children: Children<'a>,
-        valid_too: bool,
+        core_too: bool,
         g: &Targets<'_>,
         alloc: Global,
     ) -> Result<bool, AllocError>
-        ensures { IfOk result (λ b. Passes b (good_all valid_too (targets g.now) (children_forest children.entry)) (is_taken self.old) (is_taken self.new) (λ x. scopes_all x (children_forest children.entry))) }
+        ensures { IfOk result (λ b. Passes b (good_all core_too (targets g.now) (children_forest children.entry)) (is_taken self.old) (is_taken self.new) (λ x. scopes_all x (children_forest children.entry))) }
     {
         let mut left = children;
         while let Some((child, rest)) = left.next() {
-            if !self.walk(child, valid_too, g, alloc)? {
+            if !self.walk(child, core_too, g, alloc)? {
                 return Ok(false);
             }
             left = rest;

@@ -1,17 +1,19 @@
 //! Reading a text.
 ghost use Rattle.std.specs.Prelude.{◌≡◌, ◌≢◌, ◌≤◌, ◌^◌, ◌↔◌, true, length, IfOk, IfErr};
 ghost use Rattle.std.specs.Result.{IsErrOf};
+ghost use Rattle.swc_ast.specs.Core.{IsCore};
 ghost use Rattle.swc_ast.specs.Marks.{mark_number};
 ghost use Rattle.swc_ast.specs.Modules.{module_tree, script_tree};
 ghost use Rattle.swc_ast.specs.Resolved.{IsResolved};
 ghost use Rattle.swc_ast.specs.Valid.{valid};
+ghost use Rattle.swc_ast.specs.Views.{expr_tree};
 ghost use Rattle.swc_text.specs.declared.error.ReadError.TheVariants.{TooLong};
 
 use crate::error::{ReadError, told};
-use std::alloc::Global;
+use std::alloc::{AllocError, Global};
 use swc_ast::{Expr, Mark, Module, Script};
 use swc_parser::{parse_expr, parse_module, parse_script, parse_spanless_expr};
-use swc_resolved::{is_script_valid_and_resolved, is_valid_and_resolved};
+use swc_resolved::{is_core_and_resolved, is_expr_core_and_resolved, is_script_core_and_resolved};
 
 /// 2^31, in bytes
 const TOO_LONG: usize = 0x8000_0000;
@@ -24,6 +26,7 @@ const TOO_LONG: usize = 0x8000_0000;
 pub fn read_module(alloc: Global, text: &str, unresolved_mark: Mark) -> Result<Module, ReadError>
     ensures valid { IfOk result (λ m. valid (module_tree m) ≡ true) }
     ensures resolved { IfOk result (λ m. IsResolved (mark_number unresolved_mark) (module_tree m)) }
+    ensures core { IfOk result (λ m. IsCore (module_tree m)) }
     ensures too_long { IsErrOf result ReadError.TooLong ↔ 2 ^ 31 ≤ length text.now }
 {
     if text.len() >= TOO_LONG {
@@ -35,13 +38,14 @@ pub fn read_module(alloc: Global, text: &str, unresolved_mark: Mark) -> Result<M
     }
 }
 
-/// A module that was parsed: it is valid and resolved, and the tests let that be known.
+/// A module that was parsed: it is valid, resolved and core, and the tests let that be known.
 fn checked_module(alloc: Global, read: Module, unresolved_mark: Mark) -> Result<Module, ReadError>
     ensures valid { IfOk result (λ m. valid (module_tree m) ≡ true) }
     ensures resolved { IfOk result (λ m. IsResolved (mark_number unresolved_mark) (module_tree m)) }
+    ensures core { IfOk result (λ m. IsCore (module_tree m)) }
     ensures refused { IfErr result (λ e. e ≢ TooLong) }
 {
-    let is_good = is_valid_and_resolved(alloc, &read, unresolved_mark)?;
+    let is_good = is_core_and_resolved(alloc, &read, unresolved_mark)?;
     if is_good {
         Ok(read)
     } else {
@@ -54,6 +58,7 @@ fn checked_module(alloc: Global, read: Module, unresolved_mark: Mark) -> Result<
 pub fn read_script(alloc: Global, text: &str, unresolved_mark: Mark) -> Result<Script, ReadError>
     ensures valid { IfOk result (λ s. valid (script_tree s) ≡ true) }
     ensures resolved { IfOk result (λ s. IsResolved (mark_number unresolved_mark) (script_tree s)) }
+    ensures core { IfOk result (λ s. IsCore (script_tree s)) }
     ensures too_long { IsErrOf result ReadError.TooLong ↔ 2 ^ 31 ≤ length text.now }
 {
     if text.len() >= TOO_LONG {
@@ -69,9 +74,10 @@ pub fn read_script(alloc: Global, text: &str, unresolved_mark: Mark) -> Result<S
 fn checked_script(alloc: Global, read: Script, unresolved_mark: Mark) -> Result<Script, ReadError>
     ensures valid { IfOk result (λ s. valid (script_tree s) ≡ true) }
     ensures resolved { IfOk result (λ s. IsResolved (mark_number unresolved_mark) (script_tree s)) }
+    ensures core { IfOk result (λ s. IsCore (script_tree s)) }
     ensures refused { IfErr result (λ e. e ≢ TooLong) }
 {
-    let is_good = is_script_valid_and_resolved(alloc, &read, unresolved_mark)?;
+    let is_good = is_script_core_and_resolved(alloc, &read, unresolved_mark)?;
     if is_good {
         Ok(read)
     } else {
@@ -82,27 +88,52 @@ fn checked_script(alloc: Global, read: Script, unresolved_mark: Mark) -> Result<
 /// Reads a text that is one expression (ECMA-262, 13.16) of module code. Spans, contexts and errors are those of `read_module`,
 /// but for the scope of the module, which is not opened.
 pub fn read_expr(alloc: Global, text: &str, unresolved_mark: Mark) -> Result<Expr, ReadError>
+    ensures valid { IfOk result (λ e. valid (expr_tree e) ≡ true) }
+    ensures resolved { IfOk result (λ e. IsResolved (mark_number unresolved_mark) (expr_tree e)) }
+    ensures core { IfOk result (λ e. IsCore (expr_tree e)) }
     ensures too_long { IsErrOf result ReadError.TooLong ↔ 2 ^ 31 ≤ length text.now }
 {
     if text.len() >= TOO_LONG {
         return Err(ReadError::TooLong);
     }
     match parse_expr(alloc, text, unresolved_mark) {
-        Ok(read) => Ok(read),
+        Ok(read) => checked_expr(alloc, read, unresolved_mark),
         Err(fault) => Err(told(fault)),
+    }
+}
+
+/// The same of an expression.
+fn checked_expr(alloc: Global, read: Expr, unresolved_mark: Mark) -> Result<Expr, ReadError>
+    ensures valid { IfOk result (λ e. valid (expr_tree e) ≡ true) }
+    ensures resolved { IfOk result (λ e. IsResolved (mark_number unresolved_mark) (expr_tree e)) }
+    ensures core { IfOk result (λ e. IsCore (expr_tree e)) }
+    ensures refused { IfErr result (λ e. e ≢ TooLong) }
+{
+    let read = match Box::new(alloc, read) {
+        Ok(read) => read,
+        Err(error) => return Err(AllocError::from(error).into()),
+    };
+    let is_good = is_expr_core_and_resolved(alloc, &read, unresolved_mark)?;
+    if is_good {
+        Ok(Box::into_inner(read))
+    } else {
+        Err(ReadError::Syntax { at: 0 })
     }
 }
 
 /// Reads an expression as `read_expr` does, with dummy spans: of a value that is put into other texts, so that no span tells of
 /// a place there. Errors are those of `read_expr`.
 pub fn read_value(alloc: Global, text: &str, unresolved_mark: Mark) -> Result<Expr, ReadError>
+    ensures valid { IfOk result (λ e. valid (expr_tree e) ≡ true) }
+    ensures resolved { IfOk result (λ e. IsResolved (mark_number unresolved_mark) (expr_tree e)) }
+    ensures core { IfOk result (λ e. IsCore (expr_tree e)) }
     ensures too_long { IsErrOf result ReadError.TooLong ↔ 2 ^ 31 ≤ length text.now }
 {
     if text.len() >= TOO_LONG {
         return Err(ReadError::TooLong);
     }
     match parse_spanless_expr(alloc, text, unresolved_mark) {
-        Ok(read) => Ok(read),
+        Ok(read) => checked_expr(alloc, read, unresolved_mark),
         Err(fault) => Err(told(fault)),
     }
 }

@@ -1,8 +1,9 @@
 //! What is read: spans, contexts, templates, and texts that are long, wide and deep.
+use core_trees::is_core;
 use std::alloc::{AllocError, Global};
 use std::test::Fail;
 use swc_ast::{Expr, Mark, ModuleItem, Stmt, SyntaxContext};
-use swc_resolved::{is_core, is_resolved};
+use swc_resolved::is_resolved;
 use swc_text::{ReadError, read_expr, read_module};
 
 #[test]

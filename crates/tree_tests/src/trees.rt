@@ -1,4 +1,5 @@
 //! Trees that no text has: which are valid, which are resolved and which are core.
+use core_trees::{is_core, is_script_core};
 use std::alloc::{AllocError, Global};
 use std::test::Fail;
 use swc_ast::{
@@ -8,8 +9,7 @@ use swc_ast::{
 };
 use swc_debug::{is_script_valid, is_valid};
 use swc_resolved::{
-    is_core, is_resolved, is_script_core, is_script_resolved, is_script_valid_and_resolved,
-    is_valid_and_resolved,
+    is_core_and_resolved, is_resolved, is_script_core_and_resolved, is_script_resolved,
 };
 use test_trees::{
     block, declare, function, ident, module, number, param, param_with_default, span, statement,
@@ -77,8 +77,8 @@ fn invalid_trees_are_told(rt: HostRuntime) -> Result<(), Fail> {
             "{i}"
         );
         assert!(rt; !is_valid(&b) && is_resolved(alloc, &b, mark)?, "{i}");
-        assert!(rt; !is_script_valid_and_resolved(alloc, &a, mark)?, "{i}");
-        assert!(rt; !is_valid_and_resolved(alloc, &b, mark)?, "{i}");
+        assert!(rt; !is_script_core_and_resolved(alloc, &a, mark)?, "{i}");
+        assert!(rt; !is_core_and_resolved(alloc, &b, mark)?, "{i}");
     }
     Ok(())
 }
@@ -133,8 +133,8 @@ fn unresolved_trees_are_told(rt: HostRuntime) -> Result<(), Fail> {
             "{i}"
         );
         assert!(rt; is_valid(&b) && !is_resolved(alloc, &b, mark)?, "{i}");
-        assert!(rt; !is_script_valid_and_resolved(alloc, &a, mark)?, "{i}");
-        assert!(rt; !is_valid_and_resolved(alloc, &b, mark)?, "{i}");
+        assert!(rt; !is_script_core_and_resolved(alloc, &a, mark)?, "{i}");
+        assert!(rt; !is_core_and_resolved(alloc, &b, mark)?, "{i}");
     }
     Ok(())
 }
@@ -159,7 +159,7 @@ fn exports_are_bound_by_the_module(rt: HostRuntime) -> Result<(), Fail> {
         m.body.push(ModuleItem::ModuleDecl(export))?;
         assert!(rt; is_resolved(alloc, &m, mark)? == is_bound, "{text}");
         assert!(rt;
-            is_valid_and_resolved(alloc, &m, mark)? == is_bound,
+            is_core_and_resolved(alloc, &m, mark)? == is_bound,
             "{text}"
         );
     }
@@ -186,6 +186,16 @@ fn cores(alloc: Global) -> Result<Vec<(Stmt, bool)>, AllocError> {
     let inner = block(vec![in alloc; declare(alloc, VarDeclKind::Var, 2)?]?);
     let outer = vec![in alloc; declare(alloc, VarDeclKind::Let, 2)?, inner]?;
     stmts.push((block(outer), false))?;
+    // a scope's names are declared in it alone, and stay declared behind a scope inside that declares them too
+    let lexical = declare(alloc, VarDeclKind::Let, 2)?;
+    let var = declare(alloc, VarDeclKind::Var, 2)?;
+    let inner = block(vec![in alloc; lexical.clone()?]?);
+    let before = vec![in alloc; inner.clone()?, var.clone()?]?;
+    stmts.push((block(before), true))?;
+    let shadowed = vec![in alloc; lexical.clone()?, inner, var.clone()?]?;
+    stmts.push((block(shadowed), false))?;
+    let apart = function(alloc, Vec::new(alloc), vec![in alloc; var]?)?;
+    stmts.push((block(vec![in alloc; lexical, apart]?), true))?;
     Ok(stmts)
 }
 

@@ -1,4 +1,4 @@
-use Rattle.std.proofs.Common.{◌≡◌, Bool, true, sym, ap, subst, ◌∙◌}
+use Rattle.std.proofs.Common.{◌≡◌, true, sym, ap, subst, ◌∙◌}
 use Rattle.std.proofs.lemmas.Bool.{false≢true}
 use Rattle.swc_ast.specs.Marks.{mark_number}
 use Rattle.swc_ast.specs.Resolved.{no_targets, below, own_scopes, scopes_all, own_exports_bound}
@@ -15,10 +15,10 @@ pub returns-then-not-is_bound : goal.returns-then-not-is_bound
 returns-then-not-is_bound c =
     let l = kind_label c.open-opened.result.kind in let cs = children_forest c.open-opened.result.children in let mark = mark_number c.args.unresolved_mark in
     let twice = subst (λ b. Binds b (is_taken c.new-taken.result) (is_taken c.bind_own.new.self) (λ x. own_scopes x l cs)) c.if-not-is_bound.true c.in_ok-is_bound.ensures in
-    badly_bound c.args.valid_too mark (node_tree c.args.n) (bound_early mark (is_taken c.new-taken.result) (is_taken c.bind_own.new.self) (node_tree c.args.n) l cs c.open-opened.ensures.0 c.open-opened.ensures.1 c.new-taken.ensures twice)
+    badly_bound c.args.core_too mark (node_tree c.args.n) (bound_early mark (is_taken c.new-taken.result) (is_taken c.bind_own.new.self) (node_tree c.args.n) l cs c.open-opened.ensures.0 c.open-opened.ensures.1 c.new-taken.ensures twice)
 
 pub returns-then-not-own_exports_bound : goal.returns-then-not-own_exports_bound
-returns-then-not-own_exports_bound c = badly_bound c.args.valid_too (mark_number c.args.unresolved_mark) (node_tree c.args.n) (λ well.
+returns-then-not-own_exports_bound c = badly_bound c.args.core_too (mark_number c.args.unresolved_mark) (node_tree c.args.n) (λ well.
     let l = kind_label c.open-opened.result.kind in let cs = children_forest c.open-opened.result.children in
     let first = subst (λ b. Binds b (is_taken c.new-taken.result) (is_taken c.bind_own.new.self) (λ x. own_scopes x l cs)) c.if-not-is_bound.false c.in_ok-is_bound.ensures in
     let same = exports_are (mark_number c.args.unresolved_mark) (is_taken c.new-taken.result) (is_taken c.bind_own.new.self) (node_tree c.args.n) l cs c.open-opened.ensures.0 c.open-opened.ensures.1 c.new-taken.ensures first in
@@ -26,7 +26,7 @@ returns-then-not-own_exports_bound c = badly_bound c.args.valid_too (mark_number
 
 pub returns : goal.returns
 returns c =
-    let l = kind_label c.open-opened.result.kind in let cs = children_forest c.open-opened.result.children in let v = c.args.valid_too in
+    let l = kind_label c.open-opened.result.kind in let cs = children_forest c.open-opened.result.children in let v = c.args.core_too in
     let first = subst (λ b. Binds b (is_taken c.new-taken.result) (is_taken c.bind_own.new.self) (λ x. own_scopes x l cs)) c.if-not-is_bound.false c.in_ok-is_bound.ensures in
     let same = exports_are (mark_number c.args.unresolved_mark) (is_taken c.new-taken.result) (is_taken c.bind_own.new.self) (node_tree c.args.n) l cs c.open-opened.ensures.0 c.open-opened.ensures.1 c.new-taken.ensures first in
     let exports : own_exports_bound (node_tree c.args.n) ≡ true = sym same ∙ sym c.own_exports_bound.ensures ∙ c.if-not-own_exports_bound.false in

@@ -21,7 +21,7 @@ abbrev pub decreases-walk_all : goal.decreases-walk_all
 decreases-walk_all l = forest_size (children_forest l.children) * 3
 
 abbrev pub invariant-walk_all-loop-child : goal.invariant-walk_all-loop-child
-invariant-walk_all-loop-child l = (good_all l.valid_too (targets l.g) (children_forest l.left) ≡ good_all l.valid_too (targets l.g) (children_forest l.children)) × ((x : Name) → one_if (is_taken l.self x) + scopes_all x (children_forest l.left) ≡ one_if (is_taken l.initial.self x) + scopes_all x (children_forest l.children)) × (forest_size (children_forest l.left) ≤ forest_size (children_forest l.children))
+invariant-walk_all-loop-child l = (good_all l.core_too (targets l.g) (children_forest l.left) ≡ good_all l.core_too (targets l.g) (children_forest l.children)) × ((x : Name) → one_if (is_taken l.self x) + scopes_all x (children_forest l.left) ≡ one_if (is_taken l.initial.self x) + scopes_all x (children_forest l.children)) × (forest_size (children_forest l.left) ≤ forest_size (children_forest l.children))
 
 abbrev pub decreases-walk_all-loop-child : goal.decreases-walk_all-loop-child
 decreases-walk_all-loop-child l = forest_size (children_forest l.left)

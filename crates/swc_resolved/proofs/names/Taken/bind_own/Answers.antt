@@ -1,4 +1,4 @@
-use Rattle.std.proofs.Common.{◌≡◌, true, sym, ◌∙◌}
+use Rattle.std.proofs.Common.{sym, ◌∙◌}
 use Rattle.swc_visit.specs.Kinds.{kind_label}
 use Rattle.swc_visit.specs.Nodes.{children_forest}
 use Rattle.swc_resolved.specs.Names.{is_taken}

@@ -1,0 +1,4 @@
+pub mod Sizes
+pub mod Names
+pub mod Inside
+pub mod Cases

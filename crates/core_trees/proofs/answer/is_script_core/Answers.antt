@@ -1,0 +1,6 @@
+use Rattle.swc_ast.specs.Modules.{script_tree}
+use Rattle.core_trees.proofs.Inside.{core_told}
+use Rattle.core_trees.proofs.answer.is_script_core.Goals as goal
+
+pub returns-clause-answer : goal.returns-clause-answer
+returns-clause-answer c = λ v. core_told _ (script_tree c.args.s.now) c.in_ok-answer.ensures v

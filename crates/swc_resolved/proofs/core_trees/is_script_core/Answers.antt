@@ -1,6 +1,0 @@
-use Rattle.swc_ast.specs.Modules.{script_tree}
-use Rattle.swc_resolved.proofs.Fits.{core_told}
-use Rattle.swc_resolved.proofs.core_trees.is_script_core.Goals as goal
-
-pub returns-clause-answer : goal.returns-clause-answer
-returns-clause-answer c = λ v. core_told _ (script_tree c.args.s.now) c.in_ok-answer.ensures v
