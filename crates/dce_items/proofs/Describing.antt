@@ -4,23 +4,25 @@ use Rattle.std.proofs.lemmas.List.{append-nil}
 use Rattle.swc_ast.specs.Run.{has_text}
 use Rattle.swc_ast.specs.Scope.{has_name}
 use Rattle.swc_ast.specs.Tree.{Text, Name, Label, Module, Tree, node, Forest, ε, ◌⊳◌}
-use Rattle.swc_visit.specs.Nodes.{label_of, children_of}
+use Rattle.swc_visit.specs.Kinds.{kind_label}
+use Rattle.swc_visit.specs.Nodes.{label_of, children_of, children_forest}
 use Rattle.dce_uses.specs.Tables.{Tells, is_free}
 use Rattle.dce_peel.specs.declared.item.Item.{Item}
 use Rattle.dce_peel.specs.Rounds.{among}
-use Rattle.dce_layers.specs.Goers.{own_mention, mentions, mentions_among}
+use Rattle.dce_layers.specs.Goers.{own_mention, mentions, mentions_among, goes_with, inner_goers}
 use Rattle.dce_layers.specs.Layers.{notes}
 use Rattle.dce_layers.proofs.Mentioned.{noted_stands}
 use Rattle.dce_items.specs.declared.known.Known.{Known}
-use Rattle.dce_items.specs.Described.{IsNumber, IsAmong, IsFunction, Describes, AllDescribed}
-use Rattle.dce_items.specs.Gathered.{is_void, tight_inside, goers_inside, keeps_number, Settled, Gathers}
+use Rattle.dce_items.specs.declared.parts.Parts.{Parts}
+use Rattle.dce_items.specs.Described.{IsNumber, IsAmong, GoesBy, Describes, AllDescribed}
+use Rattle.dce_items.specs.Gathered.{is_void, tight_inside, goers_inside, keeps_number, Settled, Gathers, name_of, Divides}
 use Rattle.dce_items.proofs.Noting.{kept_number, free_number}
 
--- what is said of the item's parts is said of the item
-pub record Parts (k : Known) (l : Label) (cs : Forest) (i : Item) : Type 0 where
+-- what is said of an item's label and children is said of the item
+pub record Found (mark : ℕ) (k : Known) (l : Label) (cs : Forest) (i : Item) : Type 0 where
   pub solid : is_void l cs ≡ false
-  pub function : IsFunction (map string_bytes k.retained.now) k.names.now l i.function
-  pub goers : Gathers k [] i.goers.items true (tight_inside l cs) (goers_inside l cs)
+  pub name : GoesBy (map string_bytes k.retained.now) k.names.now (goes_with mark l cs) i.name
+  pub goers : Gathers k [] i.goers.items true (tight_inside l cs) (inner_goers mark l cs)
   pub notes : (n : ℕ) → among i.notes.items n ≡ (among [] n || keeps_number k (own_mention l ++ mentions_among cs) n)
 
 -- a name is free in the item, or the item notes it
@@ -43,38 +45,44 @@ noted k l cs t x n is u p = by (is_free k.uses.now x) refl
         let h : notes x t ≡ true = free_not k t u x ∙ ap not e in
         kept_number k x n (own_mention l ++ mentions_among cs) e p.number (sym (ap (has_name x) is) ∙ noted_stands x t p.named h) ∙ sym h
 
-pub described : (k : Known) (t : Tree) (l : Label) (cs : Forest) (i : Item) → label_of t ≡ l → children_of t ≡ cs → Tells k.uses.now (node Module [] (t ⊳ ε)) → Parts k l cs i → Describes (map string_bytes k.retained.now) k.names.now t i
-described k (node m ss ds) l cs i labelled held u p =
+described : (mark : ℕ) (k : Known) (t : Tree) (l : Label) (cs : Forest) (i : Item) → label_of t ≡ l → children_of t ≡ cs → Tells k.uses.now (node Module [] (t ⊳ ε)) → Found mark k l cs i → Describes mark (map string_bytes k.retained.now) k.names.now t i
+described mark k (node m ss ds) l cs i labelled held u p =
     let t = node m ss ds in
-    let q : Parts k m ds i = subst (λ (j : Label). Parts k j ds i) (sym labelled) (subst (λ (es : Forest). Parts k l es i) (sym held) p) in record {
+    let q : Found mark k m ds i = subst (λ (j : Label). Found mark k j ds i) (sym labelled) (subst (λ (es : Forest). Found mark k l es i) (sym held) p) in record {
       tight = q.goers.tight refl;
       solid = q.solid;
-      function = q.function;
+      name = q.name;
       goers = λ x h. settled k t i.goers.items x u (q.goers.settled refl x h);
       notes = λ x n o. q.notes n ∙ noted k m ds t x n refl u o;
     }
 
+-- what is gathered below the node that has the other names is gathered of the item
+gathered : (mark : ℕ) (k : Known) (l : Label) (cs : Forest) (p : Parts) (new : List ℕ) → Divides mark l cs p → Gathers k [] new true (tight_inside (kind_label p.inner.kind) (children_forest p.inner.children)) (goers_inside (kind_label p.inner.kind) (children_forest p.inner.children)) → Gathers k [] new true (tight_inside l cs) (inner_goers mark l cs)
+gathered mark k l cs p new d g = record { grows = g.grows; tight = λ e. d.tight (g.tight e); settled = λ e x h. g.settled e x (sym (ap (has_name x) d.goers) ∙ h) }
+
 -- the same by what the code finds
-pub described_so : (k : Known) (t : Tree) (l : Label) (cs : Forest) (i : Item) (v b : Bool) (none blank : List ℕ) → Gathers k none i.goers.items b (tight_inside l cs) (goers_inside l cs) → ((n : ℕ) → among i.notes.items n ≡ (among blank n || keeps_number k (own_mention l ++ mentions_among cs) n)) → label_of t ≡ l → children_of t ≡ cs → Tells k.uses.now (node Module [] (t ⊳ ε)) → v ≡ is_void l cs → v ≡ false → IsFunction (map string_bytes k.retained.now) k.names.now l i.function → none ≡ [] → b ≡ true → blank ≡ [] → Describes (map string_bytes k.retained.now) k.names.now t i
-described_so k t l cs i v b none blank g h labelled held u w solid f n going m =
-    let p : Parts k l cs i = record {
+pub described_so : (mark : ℕ) (k : Known) (t : Tree) (l : Label) (cs : Forest) (p : Parts) (i : Item) (v b : Bool) (none blank : List ℕ) → Divides mark l cs p → Gathers k none i.goers.items b (tight_inside (kind_label p.inner.kind) (children_forest p.inner.children)) (goers_inside (kind_label p.inner.kind) (children_forest p.inner.children)) → ((n : ℕ) → among i.notes.items n ≡ (among blank n || keeps_number k (own_mention l ++ mentions_among cs) n)) → label_of t ≡ l → children_of t ≡ cs → Tells k.uses.now (node Module [] (t ⊳ ε)) → v ≡ is_void l cs → v ≡ false → GoesBy (map string_bytes k.retained.now) k.names.now (name_of p.name) i.name → none ≡ [] → b ≡ true → blank ≡ [] → Describes mark (map string_bytes k.retained.now) k.names.now t i
+described_so mark k t l cs p i v b none blank d g h labelled held u w solid f n going m =
+    let ts = tight_inside (kind_label p.inner.kind) (children_forest p.inner.children) in
+    let xs = goers_inside (kind_label p.inner.kind) (children_forest p.inner.children) in
+    let q : Found mark k l cs i = record {
       solid = sym w ∙ solid;
-      function = f;
-      goers = subst (λ a. Gathers k [] i.goers.items a (tight_inside l cs) (goers_inside l cs)) going (subst (λ (ns : List ℕ). Gathers k ns i.goers.items b (tight_inside l cs) (goers_inside l cs)) n g);
+      name = subst (λ o. GoesBy (map string_bytes k.retained.now) k.names.now o i.name) (sym d.name) f;
+      goers = gathered mark k l cs p i.goers.items d (subst (λ a. Gathers k [] i.goers.items a ts xs) going (subst (λ (ns : List ℕ). Gathers k ns i.goers.items b ts xs) n g));
       notes = λ x. h x ∙ ap (λ (ns : List ℕ). among ns x || keeps_number k (own_mention l ++ mentions_among cs) x) m;
-    } in described k t l cs i labelled held u p
+    } in described mark k t l cs i labelled held u q
 
 -- items in a row: what is described, with what describes those that are left, describes all
-pub record Left (retained : List Text) (names : List Name) (now : List Item) (all left : Forest) : Type 0 where
-  pub gives : (more : List Item) → AllDescribed retained names left more → AllDescribed retained names all (now ++ more)
+pub record Left (mark : ℕ) (retained : List Text) (names : List Name) (now : List Item) (all left : Forest) : Type 0 where
+  pub gives : (more : List Item) → AllDescribed mark retained names left more → AllDescribed mark retained names all (now ++ more)
 
-pub begins : (retained : List Text) (names : List Name) (all : Forest) → Left retained names [] all all
-begins retained names all = record { gives = λ more h. h }
+pub begins : (mark : ℕ) (retained : List Text) (names : List Name) (all : Forest) → Left mark retained names [] all all
+begins mark retained names all = record { gives = λ more h. h }
 
-pub goes_on : (retained : List Text) (names : List Name) (now new : List Item) (all us : Forest) (t : Tree) (ts : Forest) (i : Item) → us ≡ t ⊳ ts → new ≡ now ++ i ∷ [] → Describes retained names t i → Left retained names now all us → Left retained names new all ts
-goes_on retained names now new all us t ts i is pushed d h = record {
-  gives = λ more g. subst (λ (js : List Item). AllDescribed retained names all js) (sym (append_assoc now (i ∷ []) more) ∙ ap (λ (js : List Item). js ++ more) (sym pushed)) (h.gives (i ∷ more) (subst (λ (vs : Forest). AllDescribed retained names vs (i ∷ more)) (sym is) (d, g)));
+pub goes_on : (mark : ℕ) (retained : List Text) (names : List Name) (now new : List Item) (all us : Forest) (t : Tree) (ts : Forest) (i : Item) → us ≡ t ⊳ ts → new ≡ now ++ i ∷ [] → Describes mark retained names t i → Left mark retained names now all us → Left mark retained names new all ts
+goes_on mark retained names now new all us t ts i is pushed d h = record {
+  gives = λ more g. subst (λ (js : List Item). AllDescribed mark retained names all js) (sym (append_assoc now (i ∷ []) more) ∙ ap (λ (js : List Item). js ++ more) (sym pushed)) (h.gives (i ∷ more) (subst (λ (vs : Forest). AllDescribed mark retained names vs (i ∷ more)) (sym is) (d, g)));
 }
 
-pub done : (retained : List Text) (names : List Name) (now : List Item) (all us : Forest) → us ≡ ε → Left retained names now all us → AllDescribed retained names all now
-done retained names now all us is h = subst (λ (js : List Item). AllDescribed retained names all js) (append-nil now) (h.gives [] (subst (λ (vs : Forest). AllDescribed retained names vs []) (sym is) tt))
+pub done : (mark : ℕ) (retained : List Text) (names : List Name) (now : List Item) (all us : Forest) → us ≡ ε → Left mark retained names now all us → AllDescribed mark retained names all now
+done mark retained names now all us is h = subst (λ (js : List Item). AllDescribed mark retained names all js) (append-nil now) (h.gives [] (subst (λ (vs : Forest). AllDescribed mark retained names vs []) (sym is) tt))

@@ -4,30 +4,31 @@ use Rattle.std.proofs.lemmas.Bool.{false≢true, ltb-true, ltb-false, eqb-true}
 use Rattle.std.proofs.lemmas.Option.{none-some}
 use Rattle.swc_ast.specs.Parts.{list_trees}
 use Rattle.swc_ast.specs.Run.{has_text}
-use Rattle.swc_ast.specs.Tree.{Text, Name, Label, FnDecl, Tree, Forest, ε, ◌⊳◌}
-use Rattle.swc_static.specs.Names.{label_of}
+use Rattle.swc_ast.specs.Tree.{Text, Name, Tree, Forest, ε, ◌⊳◌}
+use Rattle.swc_static.specs.Names.{label_of, trees_of}
 use Rattle.dce_peel.specs.declared.item.Item.{Item}
 use Rattle.dce_peel.specs.Rounds as rounds
 use Rattle.dce_peel.specs.Rounds.{among, Fits, Each, AreLayers, staying}
+use Rattle.dce_layers.specs.Goers.{goes_with}
 use Rattle.dce_layers.specs.Layers.{Layers, items, live, notes, top, Stays, Leaves, Waits, Placed, AllPlaced, has_layer}
-use Rattle.dce_items.specs.Described.{IsNumber, IsAmong, IsFunction, Describes, AllDescribed, layered, IsLayered}
+use Rattle.dce_items.specs.Described.{IsNumber, IsAmong, GoesBy, Describes, AllDescribed, layered, IsLayered}
 
 -- each item has a layer
-whole : (retained : List Text) (names : List Name) (P : Item → ℕ → Type 0) (ts : Forest) (is : List Item) (rs : List ℕ) → AllDescribed retained names ts is → Each P is rs → items (layered ts rs) ≡ ts
-whole retained names P ε is rs d e = refl
-whole retained names P (t ⊳ ts) [] rs d e = absurd d
-whole retained names P (t ⊳ ts) (i ∷ is) [] d e = absurd e
-whole retained names P (t ⊳ ts) (i ∷ is) (r ∷ rs) d e = ap (λ us. t ⊳ us) (whole retained names P ts is rs d.1 e.1)
+whole : (mark : ℕ) (retained : List Text) (names : List Name) (P : Item → ℕ → Type 0) (ts : Forest) (is : List Item) (rs : List ℕ) → AllDescribed mark retained names ts is → Each P is rs → items (layered ts rs) ≡ ts
+whole mark retained names P ε is rs d e = refl
+whole mark retained names P (t ⊳ ts) [] rs d e = absurd d
+whole mark retained names P (t ⊳ ts) (i ∷ is) [] d e = absurd e
+whole mark retained names P (t ⊳ ts) (i ∷ is) (r ∷ rs) d e = ap (λ us. t ⊳ us) (whole mark retained names P ts is rs d.1 e.1)
 
 -- the greatest layer of an item that keeps a name
-top_as : (retained : List Text) (names : List Name) (x : Name) (n : ℕ) (ts : Forest) (is : List Item) (rs : List ℕ) → IsNumber names x n → AllDescribed retained names ts is → top x (layered ts rs) ≡ rounds.top is rs n
-top_as retained names x n ε [] rs p d = refl
-top_as retained names x n ε (i ∷ is) rs p d = absurd d
-top_as retained names x n (t ⊳ ts) [] rs p d = absurd d
-top_as retained names x n (t ⊳ ts) (i ∷ is) [] p d = refl
-top_as retained names x n (t ⊳ ts) (i ∷ is) (r ∷ rs) p d = ap₂ (λ b m. max (if b then r else 0) m) (sym (d.0.notes x n p)) (top_as retained names x n ts is rs p d.1)
+top_as : (mark : ℕ) (retained : List Text) (names : List Name) (x : Name) (n : ℕ) (ts : Forest) (is : List Item) (rs : List ℕ) → IsNumber names x n → AllDescribed mark retained names ts is → top x (layered ts rs) ≡ rounds.top is rs n
+top_as mark retained names x n ε [] rs p d = refl
+top_as mark retained names x n ε (i ∷ is) rs p d = absurd d
+top_as mark retained names x n (t ⊳ ts) [] rs p d = absurd d
+top_as mark retained names x n (t ⊳ ts) (i ∷ is) [] p d = refl
+top_as mark retained names x n (t ⊳ ts) (i ∷ is) (r ∷ rs) p d = ap₂ (λ b m. max (if b then r else 0) m) (sym (d.0.notes x n p)) (top_as mark retained names x n ts is rs p d.1)
 
-module _ (retained : List Text) (names : List Name) (all : Layers) (tops : ℕ → ℕ) (agree : (x : Name) (n : ℕ) → IsNumber names x n → top x all ≡ tops n) where
+module _ (mark : ℕ) (retained : List Text) (names : List Name) (all : Layers) (tops : ℕ → ℕ) (agree : (x : Name) (n : ℕ) → IsNumber names x n → top x all ≡ tops n) where
   -- an item that keeps a name is one of those
   own : (x : Name) (t : Tree) (r m : ℕ) → notes x t ≡ true → max (if notes x t then r else 0) m ≤ top x all → r ≤ top x all
   own x t r m h le = let e : max r m ≤ top x all = subst (λ b. max (if b then r else 0) m ≤ top x all) h le in omega (arith, e)
@@ -41,32 +42,32 @@ module _ (retained : List Text) (names : List Name) (all : Layers) (tops : ℕ �
   stays ends r t i x f g fit (inr (inl h)) = inl h
   stays ends r t i x f g fit (inr (inr h)) = stays_numbered ends r h.0 x h.1.0 (fit.goers h.0 h.1.1)
 
-  leaves : (r : ℕ) (l : Label) (f : Option ℕ) → IsFunction retained names l f → rounds.Leaves tops r f → Leaves retained all r l
-  leaves r (FnDecl x) (Some n) p h = (p.0, omega (arith, h, agree x n p.1))
-  leaves r (FnDecl x) None p h = absurd h
-  leaves r l (Some n) p h = absurd p
-  leaves r l None p h = absurd h
+  leaves : (r : ℕ) (o : Option Name) (i : Option ℕ) → GoesBy retained names o i → rounds.Leaves tops r i → Leaves retained all r o
+  leaves r (Some x) (Some n) p h = (p.0, omega (arith, h, agree x n p.1))
+  leaves r (Some x) None p h = absurd h
+  leaves r None (Some n) p h = absurd p
+  leaves r None None p h = absurd h
 
-  waits : (ends r s : ℕ) (l : Label) (f : Option ℕ) → s < r → IsFunction retained names l f → rounds.Waits tops ends r f → Waits retained all ends s l
-  waits ends r s (FnDecl x) (Some n) m p (inl h) = inr (inl (omega (arith, h, m, agree x n p.1)))
-  waits ends r s (FnDecl x) (Some n) m p (inr h) = inr (inr (omega (arith, h, agree x n p.1)))
-  waits ends r s (FnDecl x) None m p h = inl p
-  waits ends r s l (Some n) m p h = absurd p
-  waits ends r s l None m p h = tt
+  waits : (ends r s : ℕ) (o : Option Name) (i : Option ℕ) → s < r → GoesBy retained names o i → rounds.Waits tops ends r i → Waits retained all ends s o
+  waits ends r s (Some x) (Some n) m p (inl h) = inr (inl (omega (arith, h, m, agree x n p.1)))
+  waits ends r s (Some x) (Some n) m p (inr h) = inr (inr (omega (arith, h, agree x n p.1)))
+  waits ends r s (Some x) None m p h = inl p
+  waits ends r s None (Some n) m p h = absurd p
+  waits ends r s None None m p h = tt
 
   -- an item stands in its layer
-  placed : (ends r m : ℕ) (t : Tree) (i : Item) → ((x : Name) → max (if notes x t then r else 0) (top x []) ≤ top x all) → Describes retained names t i → Fits tops ends i r → Placed retained all ends t r
+  placed : (ends r m : ℕ) (t : Tree) (i : Item) → ((x : Name) → max (if notes x t then r else 0) (top x []) ≤ top x all) → Describes mark retained names t i → Fits tops ends i r → Placed mark retained all ends t r
   placed ends r m t i le d fit = record {
     tight = d.tight;
     solid = d.solid;
     some = fit.some;
     goers = λ x h. stays ends r t i x (λ k. inr (inl k)) (λ k. own x t r 0 k (le x)) fit (d.goers x h);
-    goes = λ h. leaves r (label_of t) i.function d.function (fit.goes h);
-    waits = λ s h. waits ends r s (label_of t) i.function h d.function fit.waits;
+    goes = λ h. leaves r (goes_with mark (label_of t) (trees_of t)) i.name d.name (fit.goes h);
+    waits = λ s h. waits ends r s (goes_with mark (label_of t) (trees_of t)) i.name h d.name fit.waits;
   }
 
   -- and so do all
-  all_placed : (ends : ℕ) (ts : Forest) (is : List Item) (rs : List ℕ) → ((x : Name) → top x (layered ts rs) ≤ top x all) → AllDescribed retained names ts is → Each (Fits tops ends) is rs → AllPlaced retained all ends (layered ts rs)
+  all_placed : (ends : ℕ) (ts : Forest) (is : List Item) (rs : List ℕ) → ((x : Name) → top x (layered ts rs) ≤ top x all) → AllDescribed mark retained names ts is → Each (Fits tops ends) is rs → AllPlaced mark retained all ends (layered ts rs)
   all_placed ends ε is rs le d e = tt
   all_placed ends (t ⊳ ts) [] rs le d e = absurd d
   all_placed ends (t ⊳ ts) (i ∷ is) [] le d e = tt
@@ -74,12 +75,12 @@ module _ (retained : List Text) (names : List Name) (all : Layers) (tops : ℕ �
       (placed ends r 0 t i (λ x. let h = le x in omega (arith, h)) d.0 e.0, all_placed ends ts is rs (λ x. let h = le x in omega (arith, h)) d.1 e.1)
 
 -- a round takes an item
-reaches : (retained : List Text) (names : List Name) (P : Item → ℕ → Type 0) (r : ℕ) (ts : Forest) (is : List Item) (rs : List ℕ) → AllDescribed retained names ts is → Each P is rs → among rs r ≡ true → has_layer r (layered ts rs) ≡ true
-reaches retained names P r ts is [] d e h = absurd (false≢true h)
-reaches retained names P r ε [] (m ∷ rs) d e h = absurd e
-reaches retained names P r ε (i ∷ is) (m ∷ rs) d e h = absurd d
-reaches retained names P r (t ⊳ ts) [] (m ∷ rs) d e h = absurd d
-reaches retained names P r (t ⊳ ts) (i ∷ is) (m ∷ rs) d e h = by (λ k. reaches retained names P r ts is rs d.1 e.1 k) (nat_lt m r) refl (nat_lt r m) refl (nat_eq r m) refl h
+reaches : (mark : ℕ) (retained : List Text) (names : List Name) (P : Item → ℕ → Type 0) (r : ℕ) (ts : Forest) (is : List Item) (rs : List ℕ) → AllDescribed mark retained names ts is → Each P is rs → among rs r ≡ true → has_layer r (layered ts rs) ≡ true
+reaches mark retained names P r ts is [] d e h = absurd (false≢true h)
+reaches mark retained names P r ε [] (m ∷ rs) d e h = absurd e
+reaches mark retained names P r ε (i ∷ is) (m ∷ rs) d e h = absurd d
+reaches mark retained names P r (t ⊳ ts) [] (m ∷ rs) d e h = absurd d
+reaches mark retained names P r (t ⊳ ts) (i ∷ is) (m ∷ rs) d e h = by (λ k. reaches mark retained names P r ts is rs d.1 e.1 k) (nat_lt m r) refl (nat_lt r m) refl (nat_eq r m) refl h
   where
     later : (a b : Bool) → has_layer r (layered ts rs) ≡ true → (if a then has_layer r (layered ts rs) else (if b then has_layer r (layered ts rs) else true)) ≡ true
     later true b k = k
@@ -93,19 +94,19 @@ reaches retained names P r (t ⊳ ts) (i ∷ is) (m ∷ rs) d e h = by (λ k. re
     by g false f false l true q k = refl
 
 -- layers that are right by numbers are right
-pub laid : (retained : List Text) (names : List Name) (ts : Forest) (is : List Item) (ends : ℕ) (rs : List ℕ) → 0 < ends → AllDescribed retained names ts is → AreLayers is ends rs → IsLayered retained ends ts rs
-laid retained names ts is ends rs some d l = record {
-  whole = whole retained names (Fits (rounds.top is rs) ends) ts is rs d l.fit;
-  placed = all_placed retained names (layered ts rs) (rounds.top is rs) (λ x n p. top_as retained names x n ts is rs p d) ends ts is rs (λ x. omega arith) d l.fit;
-  reaches = reaches retained names (Fits (rounds.top is rs) ends) ends ts is rs d l.fit (l.reaches some);
+pub laid : (mark : ℕ) (retained : List Text) (names : List Name) (ts : Forest) (is : List Item) (ends : ℕ) (rs : List ℕ) → 0 < ends → AllDescribed mark retained names ts is → AreLayers is ends rs → IsLayered mark retained ends ts rs
+laid mark retained names ts is ends rs some d l = record {
+  whole = whole mark retained names (Fits (rounds.top is rs) ends) ts is rs d l.fit;
+  placed = all_placed mark retained names (layered ts rs) (rounds.top is rs) (λ x n p. top_as mark retained names x n ts is rs p d) ends ts is rs (λ x. omega arith) d l.fit;
+  reaches = reaches mark retained names (Fits (rounds.top is rs) ends) ends ts is rs d l.fit (l.reaches some);
 }
 
 -- the same by what the code finds
-pub laid_from : (retained : List Text) (names : List Name) (ts us : Forest) (o : Option (Vec Item Global)) (v : Vec Item Global) (js : List Item) (ends : ℕ) (rs : List ℕ) → ts ≡ us → o ≡ Some v → IfSome o (λ w. AllDescribed retained names us w.items) → js ≡ v.items → (0 < ends → AreLayers js ends rs) → 0 < ends → IsLayered retained ends ts rs
-laid_from retained names ts us None v js ends rs same is d e l some = absurd (none-some v is)
-laid_from retained names ts us (Some w) v js ends rs same is d e l some =
+pub laid_from : (mark : ℕ) (retained : List Text) (names : List Name) (ts us : Forest) (o : Option (Vec Item Global)) (v : Vec Item Global) (js : List Item) (ends : ℕ) (rs : List ℕ) → ts ≡ us → o ≡ Some v → IfSome o (λ w. AllDescribed mark retained names us w.items) → js ≡ v.items → (0 < ends → AreLayers js ends rs) → 0 < ends → IsLayered mark retained ends ts rs
+laid_from mark retained names ts us None v js ends rs same is d e l some = absurd (none-some v is)
+laid_from mark retained names ts us (Some w) v js ends rs same is d e l some =
     let f : js ≡ w.items = cc in
-    laid retained names ts w.items ends rs some (subst (λ (vs : Forest). AllDescribed retained names vs w.items) (sym same) d) (subst (λ (ks : List Item). AreLayers ks ends rs) f (l some))
+    laid mark retained names ts w.items ends rs some (subst (λ (vs : Forest). AllDescribed mark retained names vs w.items) (sym same) d) (subst (λ (ks : List Item). AreLayers ks ends rs) f (l some))
 
 -- the items that stay are those that are left
 pub staying_live : {A : Type 0} (f : A → Tree) (ends : ℕ) (xs : List A) (rs : List ℕ) → items (layered (list_trees f xs) rs) ≡ list_trees f xs → list_trees f (staying ends xs rs) ≡ live (ends + 1) (layered (list_trees f xs) rs)

@@ -4,3 +4,4 @@ pub mod Noting
 pub mod Describing
 pub mod Laying
 pub mod Sizes
+pub mod Dividing

@@ -2,11 +2,11 @@
 use Rattle.std.specs.Prelude.{ℕ, ◌≡◌, ◌⊎◌, true, false, List, [], ◌∷◌, Option, Some, None, position}
 use Rattle.swc_ast.specs.Run.{has_text}
 use Rattle.swc_ast.specs.Scope.{has_name, default_name}
-use Rattle.swc_ast.specs.Tree.{Text, Name, same_name, Label, FnDecl, Tree, Forest, ε, ◌⊳◌}
-use Rattle.swc_static.specs.Names.{label_of}
+use Rattle.swc_ast.specs.Tree.{Text, Name, same_name, Tree, Forest, ε, ◌⊳◌}
+use Rattle.swc_static.specs.Names.{label_of, trees_of}
 use Rattle.dce_peel.specs.declared.item.Item.{Item}
 use Rattle.dce_peel.specs.Rounds.{among}
-use Rattle.dce_layers.specs.Goers.{goers, is_void_item, tight}
+use Rattle.dce_layers.specs.Goers.{goes_with, inner_goers, is_void_item, tight}
 use Rattle.dce_layers.specs.Layers.{Layers, items, notes, AllPlaced, has_layer}
 
 -- A name has a number. That of a default export without a name has none.
@@ -18,26 +18,26 @@ pub record IsNumber (names : List Name) (x : Name) (n : ℕ) : Type 0 where
 abbrev pub IsAmong : List Name → List ℕ → Name → Type 0
 IsAmong names ns x = (n : ℕ) × (IsNumber names x n × (among ns n ≡ true))
 
--- The function that an item declares, if its name isn't retained.
-abbrev pub IsFunction : List Text → List Name → Label → Option ℕ → Type 0
-IsFunction retained names (FnDecl f) (Some n) = (has_text f.text retained ≡ false) × IsNumber names f n
-IsFunction retained names (FnDecl f) None = has_text f.text retained ≡ true
-IsFunction retained names l (Some n) = ⊥
-IsFunction retained names l None = Unit {0}
+-- The number of the name with which an item goes, if that isn't retained.
+abbrev pub GoesBy : List Text → List Name → Option Name → Option ℕ → Type 0
+GoesBy retained names (Some x) (Some n) = (has_text x.text retained ≡ false) × IsNumber names x n
+GoesBy retained names (Some x) None = has_text x.text retained ≡ true
+GoesBy retained names None (Some n) = ⊥
+GoesBy retained names None None = Unit {0}
 
--- An item of a list by numbers of names. A name that is declared in it is one that it keeps, or is retained, or is told.
-pub record Describes (retained : List Text) (names : List Name) (t : Tree) (i : Item) : Type 0 where
+-- An item of a list by numbers of names. Another name that is declared in it is one that it keeps, or is retained, or is told.
+pub record Describes (mark : ℕ) (retained : List Text) (names : List Name) (t : Tree) (i : Item) : Type 0 where
   pub tight : tight t ≡ true
   pub solid : is_void_item t ≡ false
-  pub function : IsFunction retained names (label_of t) i.function
-  pub goers : (x : Name) → has_name x (goers t) ≡ true → (notes x t ≡ true) ⊎ ((has_text x.text retained ≡ true) ⊎ IsAmong names i.goers.items x)
+  pub name : GoesBy retained names (goes_with mark (label_of t) (trees_of t)) i.name
+  pub goers : (x : Name) → has_name x (inner_goers mark (label_of t) (trees_of t)) ≡ true → (notes x t ≡ true) ⊎ ((has_text x.text retained ≡ true) ⊎ IsAmong names i.goers.items x)
   pub notes : (x : Name) (n : ℕ) → IsNumber names x n → among i.notes.items n ≡ notes x t
 
 -- The same of each item of a list.
-abbrev pub AllDescribed : List Text → List Name → Forest → List Item → Type 0
-AllDescribed retained names ε [] = Unit {0}
-AllDescribed retained names (t ⊳ ts) (i ∷ is) = Describes retained names t i × AllDescribed retained names ts is
-AllDescribed retained names ts is = ⊥
+abbrev pub AllDescribed : ℕ → List Text → List Name → Forest → List Item → Type 0
+AllDescribed mark retained names ε [] = Unit {0}
+AllDescribed mark retained names (t ⊳ ts) (i ∷ is) = Describes mark retained names t i × AllDescribed mark retained names ts is
+AllDescribed mark retained names ts is = ⊥
 
 -- items, each with its layer
 abbrev pub layered : Forest → List ℕ → Layers
@@ -45,7 +45,7 @@ layered (t ⊳ ts) (r ∷ rs) = (t, r) ∷ layered ts rs
 layered ts rs = []
 
 -- Each item of a list has the layer where it belongs, and each of so many rounds takes one.
-pub record IsLayered (retained : List Text) (rounds : ℕ) (ts : Forest) (layers : List ℕ) : Type 0 where
+pub record IsLayered (mark : ℕ) (retained : List Text) (rounds : ℕ) (ts : Forest) (layers : List ℕ) : Type 0 where
   pub whole : items (layered ts layers) ≡ ts
-  pub placed : AllPlaced retained (layered ts layers) rounds (layered ts layers)
+  pub placed : AllPlaced mark retained (layered ts layers) rounds (layered ts layers)
   pub reaches : has_layer rounds (layered ts layers) ≡ true

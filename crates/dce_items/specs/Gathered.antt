@@ -1,15 +1,24 @@
 -- What is gathered in a walk over an item.
+use Rattle.std.specs.Borrow.{Bor}
 use Rattle.std.specs.Prelude.{ℕ, ◌≡◌, ◌⊎◌, Bool, true, false, not, ◌&&◌, ◌||◌, if◌then◌else◌, List, [], ◌∷◌, ◌++◌, Option, Some, None, map, string_bytes, position, nat_eq}
+use Rattle.swc_ast.specs.declared.Span.{Span}
+use Rattle.swc_ast.specs.declared.VarDeclKind.{VarDeclKind}
+use Rattle.swc_ast.specs.declared.names.Ident.{Ident}
+use Rattle.swc_ast.specs.Parts.{ident_name}
 use Rattle.swc_ast.specs.Run.{has_text}
 use Rattle.swc_ast.specs.Reach.{is_for}
 use Rattle.swc_ast.specs.Scope.{has_name}
-use Rattle.swc_ast.specs.Tree.{Name, same_name, Label, Forest}
+use Rattle.swc_ast.specs.Tree.{Name, same_name, Label, VarDecl, node, Forest, ε, ◌⊳◌}
 use Rattle.swc_ast.specs.Weight.{is_list}
 use Rattle.swc_static.specs.Names.{is_some_tree}
+use Rattle.swc_visit.specs.declared.opened.Opened.{Opened}
+use Rattle.swc_visit.specs.Kinds.{kind_label}
+use Rattle.swc_visit.specs.Nodes.{children_forest}
 use Rattle.dce_uses.specs.Tables.{is_free}
 use Rattle.dce_peel.specs.Rounds.{among}
-use Rattle.dce_layers.specs.Goers.{own_goer, is_closed_label, is_head_label, goers_among, is_void_label, is_sound, tight_among}
+use Rattle.dce_layers.specs.Goers.{own_goer, is_closed_label, is_head_label, goers_among, goes_with, inner_goers, is_void_label, is_sound, tight_among}
 use Rattle.dce_items.specs.declared.known.Known.{Known}
+use Rattle.dce_items.specs.declared.parts.Parts.{Parts}
 use Rattle.dce_items.specs.Described.{IsAmong}
 
 -- the parts of an item, or of a node in it
@@ -29,6 +38,22 @@ tight_child head listed l cs = if is_head_label head l then true else (not (list
 
 abbrev pub goers_child : Bool → Label → Forest → List Name
 goers_child head l cs = if is_head_label head l then [] else (own_goer l ++ goers_inside l cs)
+
+-- the name of an identifier, if there is one
+abbrev pub name_of : Option (Bor Ident) → Option Name
+name_of None = None
+name_of (Some n) = Some (ident_name n.now)
+
+-- Parts of an item: the name with which it goes, and a node below which the others are declared, and that is as tight.
+pub record Divides (mark : ℕ) (l : Label) (cs : Forest) (p : Parts) : Type 0 where
+  pub name : goes_with mark l cs ≡ name_of p.name
+  pub goers : inner_goers mark l cs ≡ goers_inside (kind_label p.inner.kind) (children_forest p.inner.children)
+  pub tight : tight_inside (kind_label p.inner.kind) (children_forest p.inner.children) ≡ true → tight_inside l cs ≡ true
+
+-- Parts of an item that is a declaration of one variable, where it is.
+abbrev pub DividesAt : ℕ → Opened → Opened → Parts → Type 0
+DividesAt mark item variable p =
+    (k : VarDeclKind) (ss : List Span) → kind_label item.kind ≡ VarDecl k → children_forest item.children ≡ node (kind_label variable.kind) ss (children_forest variable.children) ⊳ ε → Divides mark (kind_label item.kind) (children_forest item.children) p
 
 -- A name is kept by its item, or it is retained, or its number is among some.
 abbrev pub Settled : Known → List ℕ → Name → Type 0

@@ -1,16 +1,19 @@
 //! Items by numbers of names.
 ghost use Rattle.std.specs.Prelude.{◌≡◌, map, string_bytes, IfOk, IfErr, IfSome};
 ghost use Rattle.swc_ast.specs.declared.errors.PassError.TheVariants.{OutOfMemory};
+ghost use Rattle.swc_utils.specs.Globals.{unresolved};
 ghost use Rattle.swc_visit.specs.Nodes.{node_tree, children_forest};
 ghost use Rattle.dce_items.specs.Described.{AllDescribed, Describes};
 
 use crate::kinds::is_void;
 use crate::known::Known;
+use crate::parts::parts_of;
 use dce_peel::Item;
 use dce_uses::Uses;
 use std::alloc::Global;
 use swc_ast::PassError;
 use swc_names::Names;
+use swc_utils::ExprCtx;
 use swc_visit::{Children, Node};
 
 /// An item by numbers of names. Nothing where something else than a name goes in it in any case.
@@ -18,9 +21,10 @@ fn describe(
     alloc: Global,
     names: &Names,
     retained: &[String],
+    ctx: &ExprCtx,
     item: Node<'_>,
 ) -> Result<Option<Item>, PassError>
-    ensures described { IfOk result (λ o. IfSome o (Describes (map string_bytes retained.now) names.now (node_tree item.entry))) }
+    ensures described { IfOk result (λ o. IfSome o (Describes (unresolved ctx.now) (map string_bytes retained.now) names.now (node_tree item.entry))) }
     ensures memory { IfErr result (λ e. e ≡ OutOfMemory) }
 {
     let uses = Uses::of_item(alloc, item)?;
@@ -33,20 +37,19 @@ fn describe(
     if is_void(opened) {
         return Ok(None);
     }
-    let Some(function) = known.function(opened.kind) else {
+    let Some(parts) = parts_of(ctx, opened) else {
+        return Ok(None);
+    };
+    let Some(name) = known.goer(parts.name) else {
         return Ok(None);
     };
     let mut goers = Vec::new(alloc);
-    if !known.gather_inside(opened, &mut goers)? {
+    if !known.gather_inside(parts.inner, &mut goers)? {
         return Ok(None);
     }
     let mut notes = Vec::new(alloc);
     known.note(opened, &mut notes)?;
-    Ok(Some(Item {
-        function,
-        goers,
-        notes,
-    }))
+    Ok(Some(Item { name, goers, notes }))
 }
 
 /// Items by numbers of names. Nothing where something else than a name goes in one in any case.
@@ -55,15 +58,16 @@ pub(crate) fn describe_all(
     alloc: Global,
     names: &Names,
     retained: &[String],
+    ctx: &ExprCtx,
     items: Children<'_>,
 ) -> Result<Option<Vec<Item>>, PassError>
-    ensures described { IfOk result (λ o. IfSome o (λ v. AllDescribed (map string_bytes retained.now) names.now (children_forest items.entry) v.items)) }
+    ensures described { IfOk result (λ o. IfSome o (λ v. AllDescribed (unresolved ctx.now) (map string_bytes retained.now) names.now (children_forest items.entry) v.items)) }
     ensures memory { IfErr result (λ e. e ≡ OutOfMemory) }
 {
     let mut described = Vec::new(alloc);
     let mut left = items;
     while let Some((item, rest)) = left.next() {
-        let Some(found) = describe(alloc, names, retained, item)? else {
+        let Some(found) = describe(alloc, names, retained, ctx, item)? else {
             return Ok(None);
         };
         described.push(found)?;

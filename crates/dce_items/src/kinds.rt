@@ -81,7 +81,7 @@ pub(crate) fn is_list(kind: Kind<'_>) -> bool
     }
 }
 
-fn is_empty(children: Children<'_>) -> bool
+pub(crate) fn is_empty(children: Children<'_>) -> bool
     ensures { result ≡ not (is_some_tree (children_forest children.entry)) }
 {
     children.next().is_none()

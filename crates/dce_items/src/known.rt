@@ -3,16 +3,14 @@ ghost use Rattle.std.specs.Prelude.{◌≡◌, ◌||◌, map, string_bytes, IfOk
 ghost use Rattle.swc_ast.specs.Parts.{ident_name};
 ghost use Rattle.swc_ast.specs.Run.{has_text};
 ghost use Rattle.swc_names.specs.Ids.{optional};
-ghost use Rattle.swc_visit.specs.Kinds.{kind_label};
 ghost use Rattle.dce_peel.specs.Rounds.{among};
-ghost use Rattle.dce_items.specs.Described.{IsFunction, IsNumber};
-ghost use Rattle.dce_items.specs.Gathered.{Gathers, keeps_number};
+ghost use Rattle.dce_items.specs.Described.{GoesBy, IsNumber};
+ghost use Rattle.dce_items.specs.Gathered.{Gathers, keeps_number, name_of};
 
 use dce_uses::{Uses, is_default};
 use std::alloc::AllocError;
 use swc_ast::Ident;
 use swc_names::Names;
-use swc_visit::Kind;
 
 /// What is known of names.
 #[derive(Clone, Copy)]
@@ -56,11 +54,11 @@ impl<'a> Known<'a> {
         self.names.number_of(name)
     }
 
-    /// The function that an item declares, if its name isn't retained; nothing where nothing is known of the name.
-    pub(crate) fn function(&self, kind: Kind<'_>) -> Option<Option<usize>>
-        ensures { IfSome result (IsFunction (map string_bytes self.now.retained.now) self.now.names.now (kind_label kind.entry)) }
+    /// The number of the name with which an item goes, if there is one and it isn't retained; nothing where nothing is known of it.
+    pub(crate) fn goer(&self, name: Option<&Ident>) -> Option<Option<usize>>
+        ensures { IfSome result (GoesBy (map string_bytes self.now.retained.now) self.now.names.now (name_of name.entry)) }
     {
-        let Kind::FnDecl(name) = kind else {
+        let Some(name) = name else {
             return Some(None);
         };
         if self.is_retained(name) {

@@ -1,5 +1,5 @@
 //! The items of a module's list by the numbers of names, and how many rounds of the tree shaker in which nothing but functions
-//! of the list goes are known beforehand.
+//! and variables of the list goes are known beforehand.
 #![tactic(auto)]
 
 mod access;
@@ -8,6 +8,7 @@ mod gather;
 mod kinds;
 mod known;
 mod notes;
+mod parts;
 mod rounds;
 
 pub use rounds::rounds_of;

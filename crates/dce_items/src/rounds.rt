@@ -3,6 +3,7 @@ ghost use Rattle.std.specs.Prelude.{◌≡◌, ◌≤◌, ◌<◌, map, string_b
 ghost use Rattle.swc_ast.specs.Modules.{item_tree};
 ghost use Rattle.swc_ast.specs.Parts.{list_trees};
 ghost use Rattle.swc_ast.specs.declared.errors.PassError.TheVariants.{OutOfMemory};
+ghost use Rattle.swc_utils.specs.Globals.{unresolved};
 ghost use Rattle.dce_items.specs.Described.{IsLayered};
 
 use crate::access::accesses_of;
@@ -11,24 +12,26 @@ use dce_peel::{Layering, layers_of};
 use std::alloc::Global;
 use swc_ast::{Module, PassError};
 use swc_names::Names;
+use swc_utils::ExprCtx;
 use swc_visit::Node;
 
 /// In which rounds of the tree shaker the items of a module go, where names of the top level go too and the texts of some stay:
-/// as many rounds as are known beforehand, `most` at most, in which nothing but functions of the module's list goes. Refuses where
-/// memory is refused.
+/// as many rounds as are known beforehand, `most` at most, in which nothing but functions and variables of the module's list
+/// goes. `ctx` tells which names are the host's. Refuses where memory is refused.
 pub fn rounds_of(
     alloc: Global,
     module: &Module,
     retained: &[String],
+    ctx: &ExprCtx,
     most: usize,
 ) -> Result<Layering, PassError>
     ensures few { IfOk result (λ l. l.rounds ≤ most) }
-    ensures layered { IfOk result (λ l. 0 < l.rounds → IsLayered (map string_bytes retained.now) l.rounds (list_trees item_tree «module».now.body.items) l.layers.items) }
+    ensures layered { IfOk result (λ l. 0 < l.rounds → IsLayered (unresolved ctx.now) (map string_bytes retained.now) l.rounds (list_trees item_tree «module».now.body.items) l.layers.items) }
     ensures memory { IfErr result (λ e. e ≡ OutOfMemory) }
 {
     let names = Names::new(alloc, &module.body)?;
     let items = Node::Module(module).open().children;
-    let Some(described) = describe_all(alloc, &names, retained, items)? else {
+    let Some(described) = describe_all(alloc, &names, retained, ctx, items)? else {
         return Ok(Layering {
             layers: Vec::new(alloc),
             rounds: 0,

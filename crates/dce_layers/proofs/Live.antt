@@ -57,9 +57,9 @@ kept retained ss rounds r ps x s m (inr (inl h)) = or_yes (has_text x.text retai
 kept retained ss rounds r ps x s m (inr (inr h)) = or_yes (has_text x.text retained) (keeps x (live r ps)) (high x r ps s (omega (arith, m, h)))
 
 -- in front of the first round all items are left
-pub all_live : (retained : List Text) (rounds : ℕ) (all ps : Layers) → AllPlaced retained all rounds ps → live 1 ps ≡ items ps
-all_live retained rounds all [] h = refl
-all_live retained rounds all (p ∷ ps) h = by (nat_lt p.1 1) refl (all_live retained rounds all ps h.1)
+pub all_live : (mark : ℕ) (retained : List Text) (rounds : ℕ) (all ps : Layers) → AllPlaced mark retained all rounds ps → live 1 ps ≡ items ps
+all_live mark retained rounds all [] h = refl
+all_live mark retained rounds all (p ∷ ps) h = by (nat_lt p.1 1) refl (all_live mark retained rounds all ps h.1)
   where
     by : (b : Bool) → nat_lt p.1 1 ≡ b → live 1 ps ≡ items ps → (if b then live 1 ps else (p.0 ⊳ live 1 ps)) ≡ p.0 ⊳ items ps
     by true e k = absurd (omega (arith, ltb-true p.1 1 e, h.0.some))

@@ -1,9 +1,10 @@
 -- What of a tree may go where the tree shaker enters it: names that it declares, and items of its lists that go in any case.
-use Rattle.std.specs.Prelude.{Bool, true, false, not, ◌&&◌, ◌||◌, if◌then◌else◌, List, [], ◌∷◌, ◌++◌}
+use Rattle.std.specs.Prelude.{ℕ, Bool, true, false, not, ◌&&◌, ◌||◌, if◌then◌else◌, List, [], ◌∷◌, ◌++◌, Option, Some, None}
 use Rattle.swc_ast.specs.Reach.{named_by, is_for, is_default_function}
 use Rattle.swc_ast.specs.Redex.{is_delete}
 use Rattle.swc_ast.specs.Tree.{Name, Label, VarDecl, Declarator, FnDecl, Module, Script, Import, ImportNamed, ImportDefault, ImportStar, ExportDecl, Empty, Block, Tree, node, Forest, ε, ◌⊳◌}
 use Rattle.swc_ast.specs.Weight.{is_list}
+use Rattle.swc_utils.specs.Pure.{pure}
 use Rattle.swc_static.specs.Names.{label_of, is_some_tree}
 use Rattle.swc_walk.specs.Pass.{is_declaration, are_unvisited}
 use Rattle.dce_rules.specs.Uses.{declared_by_node}
@@ -35,6 +36,23 @@ abbrev mutual
   pub goers_among : Bool → Forest → List Name
   goers_among head ε = []
   goers_among head (t ⊳ ts) = (if is_head_label head (label_of t) then [] else (own_goer (label_of t) ++ goers t)) ++ goers_among false ts
+
+-- whether a first value is left out or pure
+abbrev pub is_pure_init : ℕ → Forest → Bool
+is_pure_init mark ε = true
+is_pure_init mark (r ⊳ ε) = pure mark r
+is_pure_init mark ts = false
+
+-- the name with which an item of a list goes: a function's, or that of one variable whose first value is left out or pure
+abbrev pub goes_with : ℕ → Label → Forest → Option Name
+goes_with mark (FnDecl f) cs = Some f
+goes_with mark (VarDecl k) (node (Declarator j x) ss cs ⊳ ε) = if is_pure_init mark cs then Some x else None
+goes_with mark l cs = None
+
+-- the other names that nodes of the item declare, where they are entered
+abbrev pub inner_goers : ℕ → Label → Forest → List Name
+inner_goers mark (VarDecl k) (node (Declarator j x) ss cs ⊳ ε) = if is_pure_init mark cs then goers_among false cs else goers_among false (node (Declarator j x) ss cs ⊳ ε)
+inner_goers mark l cs = goers (node l [] cs)
 
 abbrev pub is_void_label : Label → Bool
 is_void_label Empty = true

@@ -1,11 +1,11 @@
 -- Items of a module in layers: in which round of the shaker each goes.
-use Rattle.std.specs.Prelude.{ℕ, ◌+◌, ◌≤◌, ◌<◌, ◌≡◌, ◌⊎◌, Bool, true, false, not, if◌then◌else◌, List, [], ◌∷◌, max, nat_lt}
+use Rattle.std.specs.Prelude.{ℕ, ◌+◌, ◌≤◌, ◌<◌, ◌≡◌, ◌⊎◌, Bool, true, false, not, if◌then◌else◌, List, [], ◌∷◌, Option, Some, None, max, nat_lt}
 use Rattle.swc_ast.specs.Run.{has_text}
 use Rattle.swc_ast.specs.Scope.{has_name}
-use Rattle.swc_ast.specs.Tree.{Text, Name, Label, FnDecl, Module, Tree, node, Forest, ε, ◌⊳◌}
-use Rattle.swc_static.specs.Names.{label_of}
+use Rattle.swc_ast.specs.Tree.{Text, Name, Module, Tree, node, Forest, ε, ◌⊳◌}
+use Rattle.swc_static.specs.Names.{label_of, trees_of}
 use Rattle.dce_rules.specs.Uses.{free_to_go}
-use Rattle.dce_layers.specs.Goers.{goers, is_void_item, tight}
+use Rattle.dce_layers.specs.Goers.{goes_with, inner_goers, is_void_item, tight}
 
 -- items, each with the round in which it goes
 abbrev pub Layers : Type 0
@@ -34,29 +34,29 @@ top x (p ∷ ps) = max (if notes x p.0 then p.1 else 0) (top x ps)
 abbrev pub Stays : List Text → Layers → ℕ → ℕ → Name → Type 0
 Stays retained ps rounds r x = (has_text x.text retained ≡ true) ⊎ ((r ≤ top x ps) ⊎ (rounds ≤ top x ps))
 
--- What goes in a round: a function whose name isn't retained, and that no item keeps which is left then.
-abbrev pub Leaves : List Text → Layers → ℕ → Label → Type 0
-Leaves retained ps r (FnDecl f) = (has_text f.text retained ≡ false) × (top f ps < r)
-Leaves retained ps r l = ⊥
+-- What goes in a round: an item with a name that isn't retained, and that no item keeps which is left then.
+abbrev pub Leaves : List Text → Layers → ℕ → Option Name → Type 0
+Leaves retained ps r (Some x) = (has_text x.text retained ≡ false) × (top x ps < r)
+Leaves retained ps r None = ⊥
 
--- A function stays up to the round before.
-abbrev pub Waits : List Text → Layers → ℕ → ℕ → Label → Type 0
-Waits retained ps rounds r (FnDecl f) = Stays retained ps rounds r f
-Waits retained ps rounds r l = Unit {0}
+-- It stays up to the round before.
+abbrev pub Waits : List Text → Layers → ℕ → ℕ → Option Name → Type 0
+Waits retained ps rounds r (Some x) = Stays retained ps rounds r x
+Waits retained ps rounds r None = Unit {0}
 
--- An item stands in the layer where it belongs.
-pub record Placed (retained : List Text) (ps : Layers) (rounds : ℕ) (t : Tree) (r : ℕ) : Type 0 where
+-- An item stands in the layer where it belongs, where unresolved names have a mark.
+pub record Placed (mark : ℕ) (retained : List Text) (ps : Layers) (rounds : ℕ) (t : Tree) (r : ℕ) : Type 0 where
   pub tight : tight t ≡ true
   pub solid : is_void_item t ≡ false
   pub some : 0 < r
-  pub goers : (x : Name) → has_name x (goers t) ≡ true → Stays retained ps rounds r x
-  pub goes : r ≤ rounds → Leaves retained ps r (label_of t)
-  pub waits : (s : ℕ) → s < r → Waits retained ps rounds s (label_of t)
+  pub goers : (x : Name) → has_name x (inner_goers mark (label_of t) (trees_of t)) ≡ true → Stays retained ps rounds r x
+  pub goes : r ≤ rounds → Leaves retained ps r (goes_with mark (label_of t) (trees_of t))
+  pub waits : (s : ℕ) → s < r → Waits retained ps rounds s (goes_with mark (label_of t) (trees_of t))
 
 -- Each of some items does.
-abbrev pub AllPlaced : List Text → Layers → ℕ → Layers → Type 0
-AllPlaced retained all rounds [] = Unit {0}
-AllPlaced retained all rounds (p ∷ ps) = Placed retained all rounds p.0 p.1 × AllPlaced retained all rounds ps
+abbrev pub AllPlaced : ℕ → List Text → Layers → ℕ → Layers → Type 0
+AllPlaced mark retained all rounds [] = Unit {0}
+AllPlaced mark retained all rounds (p ∷ ps) = Placed mark retained all rounds p.0 p.1 × AllPlaced mark retained all rounds ps
 
 -- whether some item stands in a layer
 abbrev pub has_layer : ℕ → Layers → Bool
@@ -64,9 +64,9 @@ has_layer r [] = false
 has_layer r (p ∷ ps) = if nat_lt p.1 r then has_layer r ps else (if nat_lt r p.1 then has_layer r ps else true)
 
 -- Items that go layer by layer in so many rounds, and what is left.
-pub record Peels (retained : List Text) (rounds : ℕ) (ts us : Forest) : Type 0 where
+pub record Peels (mark : ℕ) (retained : List Text) (rounds : ℕ) (ts us : Forest) : Type 0 where
   pub layers : Layers
   pub whole : items layers ≡ ts
   pub left : us ≡ live (rounds + 1) layers
-  pub placed : AllPlaced retained layers rounds layers
+  pub placed : AllPlaced mark retained layers rounds layers
   pub reaches : 0 < rounds → has_layer rounds layers ≡ true

@@ -17,4 +17,4 @@ shaker_at mark drops retained ss ps r = record { mark = mark; free = λ x. free_
 
 -- In each round the layer goes, and nothing else.
 abbrev pub LayersGo : Type 0
-LayersGo = (mark : ℕ) (drops : Bool) (retained : List Text) (ss : List Span) (ps : Layers) (rounds r : ℕ) → 0 < r → r ≤ rounds → AllPlaced retained ps rounds ps → has_layer rounds ps ≡ true → Whole (shake_pass (shaker_at mark drops retained ss ps r)) true (module_at ss ps r) (module_at ss ps (r + 1))
+LayersGo = (mark : ℕ) (drops : Bool) (retained : List Text) (ss : List Span) (ps : Layers) (rounds r : ℕ) → 0 < r → r ≤ rounds → AllPlaced mark retained ps rounds ps → has_layer rounds ps ≡ true → Whole (shake_pass (shaker_at mark drops retained ss ps r)) true (module_at ss ps r) (module_at ss ps (r + 1))

@@ -1,5 +1,5 @@
-//! Rounds of the tree shaker in which nothing but functions of a module's own list goes: items, each given the round in which it goes,
-//! that are what so many rounds leave one by one.
+//! Rounds of the tree shaker in which nothing but functions and variables of a module's own list goes: items, each given the round
+//! in which it goes, that are what so many rounds leave one by one.
 #![tactic(auto)]
 
 ghost use Rattle.dce_layers.specs.Walked.{LayersGo};

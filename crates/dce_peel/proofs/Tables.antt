@@ -36,8 +36,8 @@ module _ (tops : List ℕ) (t : ℕ → ℕ) (table : (n : ℕ) → n < length t
   fits : (rounds : ℕ) (i : Item) (r : ℕ) → FitsBy tops rounds i r → Fits t rounds i r
   fits rounds i r f = record {
     some = f.some;
-    goes = λ h. leaves r i.function f.function (f.goes h);
-    waits = waits rounds r i.function f.function f.waits;
+    goes = λ h. leaves r i.name f.name (f.goes h);
+    waits = waits rounds r i.name f.name f.waits;
     goers = λ n h. stays rounds r n (f.goers n h).0 (f.goers n h).1;
   }
 

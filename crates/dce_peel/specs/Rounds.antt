@@ -16,12 +16,12 @@ top is rs n = 0
 abbrev pub Stays : (ℕ → ℕ) → ℕ → ℕ → ℕ → Type 0
 Stays tops rounds r n = (r ≤ tops n) ⊎ (rounds ≤ tops n)
 
--- What goes in a round: a function that no item notes which is left then.
+-- What goes in a round: an item whose name no item notes which is left then.
 abbrev pub Leaves : (ℕ → ℕ) → ℕ → Option ℕ → Type 0
 Leaves tops r None = ⊥
 Leaves tops r (Some f) = tops f < r
 
--- A function stays up to the round before.
+-- It stays up to the round before.
 abbrev pub Waits : (ℕ → ℕ) → ℕ → ℕ → Option ℕ → Type 0
 Waits tops rounds r None = Unit {0}
 Waits tops rounds r (Some f) = (r ≤ tops f + 1) ⊎ (rounds ≤ tops f)
@@ -29,16 +29,16 @@ Waits tops rounds r (Some f) = (r ≤ tops f + 1) ⊎ (rounds ≤ tops f)
 -- An item stands in the layer where it belongs.
 pub record Fits (tops : ℕ → ℕ) (rounds : ℕ) (i : Item) (r : ℕ) : Type 0 where
   pub some : 0 < r
-  pub goes : r ≤ rounds → Leaves tops r i.function
-  pub waits : Waits tops rounds r i.function
+  pub goes : r ≤ rounds → Leaves tops r i.name
+  pub waits : Waits tops rounds r i.name
   pub goers : (n : ℕ) → among i.goers.items n ≡ true → Stays tops rounds r n
 
 -- An item does, by a table of the greatest layers.
 pub record FitsBy (tops : List ℕ) (rounds : ℕ) (i : Item) (r : ℕ) : Type 0 where
   pub some : 0 < r
-  pub function : IfSome i.function (λ f. f < length tops)
-  pub goes : r ≤ rounds → Leaves (slice_index tops) r i.function
-  pub waits : Waits (slice_index tops) rounds r i.function
+  pub name : IfSome i.name (λ f. f < length tops)
+  pub goes : r ≤ rounds → Leaves (slice_index tops) r i.name
+  pub waits : Waits (slice_index tops) rounds r i.name
   pub goers : (n : ℕ) → among i.goers.items n ≡ true → (n < length tops) × Stays (slice_index tops) rounds r n
 
 -- Something holds of each item and its layer, and each has one.

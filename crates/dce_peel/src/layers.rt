@@ -87,13 +87,13 @@ fn all_stay(tops: &[usize], rounds: usize, layer: usize, names: &[usize]) -> boo
     true
 }
 
-/// Whether what an item declares goes in a round, if that is one of so many, and stays up to the round before.
-fn goes(tops: &[usize], rounds: usize, layer: usize, function: Option<usize>) -> bool
-    ensures within { IsTrue result → IfSome function (λ f. f < length tops.now) }
-    ensures goes { IsTrue result → layer ≤ rounds → Leaves (slice_index tops.now) layer function }
-    ensures waits { IsTrue result → Waits (slice_index tops.now) rounds layer function }
+/// Whether an item goes with its name in a round, if that is one of so many, and stays up to the round before.
+fn goes(tops: &[usize], rounds: usize, layer: usize, name: Option<usize>) -> bool
+    ensures within { IsTrue result → IfSome name (λ f. f < length tops.now) }
+    ensures goes { IsTrue result → layer ≤ rounds → Leaves (slice_index tops.now) layer name }
+    ensures waits { IsTrue result → Waits (slice_index tops.now) rounds layer name }
 {
-    let Some(name) = function else {
+    let Some(name) = name else {
         return rounds < layer;
     };
     if name >= tops.len() {
@@ -108,9 +108,7 @@ fn goes(tops: &[usize], rounds: usize, layer: usize, function: Option<usize>) ->
 fn fits(tops: &[usize], rounds: usize, item: &Item, layer: usize) -> bool
     ensures { IsTrue result → FitsBy tops.now rounds item.now layer }
 {
-    layer > 0
-        && goes(tops, rounds, layer, item.function)
-        && all_stay(tops, rounds, layer, &item.goers)
+    layer > 0 && goes(tops, rounds, layer, item.name) && all_stay(tops, rounds, layer, &item.goers)
 }
 
 /// Whether each item has a layer and stands in it.

@@ -14,7 +14,7 @@ struct NameState {
     noted: usize,
     /// how often it stands among the goers of items that are left
     held: usize,
-    /// the item that is the declaration of the function of that name
+    /// the first item that goes with it
     item: Option<usize>,
     /// how often items that are left read it
     reads: usize,
@@ -52,7 +52,7 @@ struct Rounds<'a> {
     layers: Vec<usize>,
     /// what goes in the next round
     next: Vec<usize>,
-    /// whether something would go in the next round that is no function of the list
+    /// whether something would go in the next round that is no item
     is_over: bool,
 }
 
@@ -74,6 +74,21 @@ impl<'a> Rounds<'a> {
         })
     }
 
+    /// An item goes with a name, if another doesn't; the name is held by this one, if another does.
+    fn count_name(&mut self, at: usize, name: Option<usize>) {
+        let Some(name) = name else {
+            return;
+        };
+        if name >= self.names.len() {
+            return;
+        }
+        if self.names[name].item.is_none() {
+            self.names[name].item = Some(at);
+        } else {
+            self.names[name].held = self.names[name].held.saturating_add(1);
+        }
+    }
+
     /// Counts what items note and hold.
     fn count(&mut self) {
         for (i, item) in self.items.iter().enumerate() {
@@ -87,11 +102,7 @@ impl<'a> Rounds<'a> {
                     self.names[*name].held = self.names[*name].held.saturating_add(1);
                 }
             }
-            if let Some(name) = item.function {
-                if name < self.names.len() {
-                    self.names[name].item = Some(i);
-                }
-            }
+            self.count_name(i, item.name);
         }
     }
 

@@ -4,12 +4,12 @@ use std::alloc::{AllocError, Global};
 
 fn item(
     alloc: Global,
-    function: Option<usize>,
+    name: Option<usize>,
     goers: &[usize],
     notes: &[usize],
 ) -> Result<Item, AllocError> {
     Ok(Item {
-        function,
+        name,
         goers: Vec::from_slice(alloc, goers)?,
         notes: Vec::from_slice(alloc, notes)?,
     })

@@ -85,7 +85,7 @@ pub tells : (mark : ℕ) (t u : Tree) (c : Bool) → Whole (remove_pass mark) c 
 tells mark t u true w = λ e. differs t u (falls w) e
 tells mark t u false w = whole_same w refl
 
-removed : (mark : ℕ) (t u : Tree) (c : Bool) → IsShaped t → Whole (remove_pass mark) c t u → Removed mark t u
+pub removed : (mark : ℕ) (t u : Tree) (c : Bool) → IsShaped t → Whole (remove_pass mark) c t u → Removed mark t u
 removed mark t u c s w = record {
   changed = c;
   walk = w;

@@ -3,3 +3,4 @@ pub mod Made
 pub mod Entering
 pub mod Resting
 pub mod Copied
+pub mod Rounds

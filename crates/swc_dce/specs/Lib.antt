@@ -1,2 +1,3 @@
 pub mod Shaken
 pub mod Configured
+pub mod Peeling

@@ -6,7 +6,7 @@ use std::alloc::{AllocError, Global};
 use swc_ast::Mark;
 
 /// Options of the tree shaker.
-#[derive(Debug, Drop)]
+#[derive(Debug, PartialEq, Eq, Hash, Drop)]
 pub struct Config {
     /// A mark of modules inside the module. It is kept, and nothing reads it.
     pub module_mark: Option<Mark>,

@@ -4,10 +4,12 @@
 ghost use Rattle.swc_dce.specs.Shaken.{LawfulShaking, WalkIsShaken, WalkTells};
 
 mod config;
+mod peel;
 mod rules;
 mod shaker;
 
 pub use config::Config;
+pub use peel::Peeled;
 pub use shaker::{TreeShaker, dce};
 
 /// The laws of the tree shaker, which its contract states.

@@ -18,7 +18,7 @@ use swc_walk::{walk_module, walk_script};
 /// A pass that removes declarations of names that nothing uses, and assignments to names that nothing reads, in one walk.
 #[derive(Drop)]
 pub struct TreeShaker {
-    config: Config,
+    pub(crate) config: Config,
     unresolved_mark: Mark,
     changed: bool,
 }
@@ -36,6 +36,16 @@ pub fn dce(config: Config, unresolved_mark: Mark) -> TreeShaker
 }
 
 impl TreeShaker {
+    /// Which names are the host's.
+    pub(crate) fn ctx(&self) -> ExprCtx
+        ensures { unresolved result ≡ mark_number self.now.unresolved_mark }
+    {
+        ExprCtx {
+            unresolved_ctxt: SyntaxContext::empty().apply_mark(self.unresolved_mark),
+            is_unresolved_ref_safe: false,
+        }
+    }
+
     /// What is known in a run over a module or a script that uses its names so.
     fn known<'a>(&'a self, uses: &'a Uses) -> Known<'a>
         ensures uses { result.uses.now ≡ uses.now }
@@ -47,10 +57,7 @@ impl TreeShaker {
         Known {
             uses,
             retained: &self.config.top_retain,
-            ctx: ExprCtx {
-                unresolved_ctxt: SyntaxContext::empty().apply_mark(self.unresolved_mark),
-                is_unresolved_ref_safe: false,
-            },
+            ctx: self.ctx(),
             top_level: self.config.top_level,
             drops_imports: !self.config.preserve_imports_with_side_effects,
         }

@@ -1,0 +1,4 @@
+pub mod Sublists
+pub mod Tidy
+pub mod Shaped
+pub mod Rounds
