@@ -1,4 +1,6 @@
 pub mod Exact
-pub mod Rounds
+pub mod Rows
 pub mod Settling
+pub mod Peeled
+pub mod Turns
 pub mod Runs

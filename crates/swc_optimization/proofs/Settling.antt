@@ -12,9 +12,10 @@ use Rattle.swc_pass.specs.Repeat.{Rounds, last}
 use Rattle.swc_expr.specs.Simplified.{Simplified}
 use Rattle.swc_branch.specs.Removed.{Removed}
 use Rattle.swc_dce.specs.Shaken.{Told, Shaken}
+use Rattle.round_laws.specs.Rested.{Rested}
 use Rattle.swc_optimization.specs.Simplifier.{Round, Settled}
 use Rattle.swc_optimization.proofs.Exact.{not_heavier, unchanged}
-use Rattle.swc_optimization.proofs.Rounds.{simplify_settles, remove_settles, shake_settles}
+use Rattle.swc_optimization.proofs.Rows.{simplify_settles, remove_settles, shake_settles}
 
 -- a node that isn't of the first kind isn't of the second
 
@@ -48,12 +49,7 @@ mutual
 
 -- where a round answers its input, each of its passes does
 
-record AtRest (told : Told) (t : Tree) : Type 0 where
-  simplifies : Simplified (mark_number told.mark) t t
-  removes : Removed (mark_number told.mark) t t
-  shakes : Shaken told t t
-
-at_rest : (told : Told) (t : Tree) → Round told t t → AtRest told t
+at_rest : (told : Told) (t : Tree) → Round told t t → Rested told t t
 at_rest told t a =
     let f = simplify_settles told.mark t a.simplified a.simplifies in
     let g = remove_settles told.mark a.simplified a.removed a.removes in
@@ -64,14 +60,16 @@ at_rest told t a =
     let e = unchanged f.0 t a.simplified f.1 (omega (arith, d, k)) in
     let i = unchanged h.0 a.removed t h.1 (omega (arith, s, d)) in
     record {
-      simplifies = subst (λ x. Simplified (mark_number told.mark) t x) e a.simplifies;
-      removes = subst (λ x. Removed (mark_number told.mark) t x) (sym i) (subst (λ x. Removed (mark_number told.mark) x a.removed) e a.removes);
+      rests = record {
+        simplifies = subst (λ x. Simplified (mark_number told.mark) t x) e a.simplifies;
+        removes = subst (λ x. Removed (mark_number told.mark) t x) (sym i) (subst (λ x. Removed (mark_number told.mark) x a.removed) e a.removes);
+      };
       shakes = subst (λ x. Shaken told x t) (sym i) a.shakes;
     }
 
-settled : (told : Told) (t : Tree) → AtRest told t → valid t ≡ true → Settled told t
+settled : (told : Told) (t : Tree) → Rested told t t → valid t ≡ true → Settled told t
 settled told t a v = record {
-  simple = free_of_both t (fold_free t (a.simplifies.finished refl)) (a.removes.finished v refl);
+  simple = free_of_both t (fold_free t (a.rests.simplifies.finished refl)) (a.rests.removes.finished v refl);
   used = λ e p q l ss cs i x xs d. a.shakes.left e refl v p q l ss cs i x xs d;
 }
 

@@ -1,3 +1,4 @@
 pub mod Simplifier
 pub mod Laws
 pub mod RoundLaws
+pub mod Turns

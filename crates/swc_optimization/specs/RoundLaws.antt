@@ -10,7 +10,7 @@ use Rattle.swc_ast.specs.Valid.{valid}
 use Rattle.swc_meaning.proofs.Observations.{same_trans}
 use Rattle.swc_pass.specs.ChainLaws.{lighter_on}
 use Rattle.swc_pass.specs.Pass.{PassSpec, IsLawful}
-use Rattle.swc_pass.specs.Repeat.{Rounded, Repeats, repeated}
+use Rattle.swc_pass.specs.Repeat.{Rounded, repeated}
 use Rattle.swc_pass.specs.RepeatLaws.{repeated_lawful, rounds_give}
 use Rattle.swc_dce.specs.Shaken.{Told}
 use Rattle.swc_optimization.specs.Simplifier.{Round, round_spec, rounds_spec}

@@ -1,10 +1,15 @@
 -- What the simplifier makes of a module or a script.
-use Rattle.std.specs.Prelude.{ℕ, ◌≡◌, Bool, true, false, List, ◌∷◌, Some}
+use Rattle.std.specs.Prelude.{ℕ, ◌≡◌, ◌<◌, ◌≤◌, ◌+◌, Bool, true, false, List, ◌∷◌, Some}
 use Rattle.swc_ast.specs.declared.Span.{Span}
+use Rattle.swc_ast.specs.Core.{IsCore}
 use Rattle.swc_ast.specs.Marks.{mark_number}
 use Rattle.swc_ast.specs.Redex.{has_redex}
+use Rattle.swc_ast.specs.Resolved.{IsResolved}
+use Rattle.swc_ast.specs.Run.{Same}
 use Rattle.swc_ast.specs.Tree.{Name, Label, Tree, node, Forest}
-use Rattle.swc_pass.specs.Pass.{PassSpec}
+use Rattle.swc_ast.specs.Valid.{valid}
+use Rattle.swc_ast.specs.Weight.{weight}
+use Rattle.swc_pass.specs.Pass.{PassSpec, TellsChange}
 use Rattle.swc_pass.specs.Repeat.{Rounded}
 use Rattle.swc_expr.specs.Simplified.{Simplified}
 use Rattle.swc_branch.specs.Removed.{Removed}
@@ -44,3 +49,24 @@ pub record Simplifying : Type 0 where
   pub rounds : ℕ
   pub reached : Bool
   pub changed : Bool
+
+-- What a run makes of a module or a script: by a configuration and the greatest number of rounds, and by what the simplifier tells afterwards.
+pub record Simplifies (told : Told) (most : ℕ) (now : Simplifying) (t u : Tree) : Type 0 where
+  -- of what is resolved and in the core, the result does the same in each world
+  pub same : IsResolved (mark_number told.mark) t → IsCore t → Same (mark_number told.mark) told.keeps_imports t u
+  -- what is resolved stays so
+  pub stays_resolved : IsResolved (mark_number told.mark) t → IsResolved (mark_number told.mark) u
+  -- what is valid stays so
+  pub stays_valid : valid t ≡ true → valid u ≡ true
+  -- what is in the core stays so
+  pub stays_core : IsCore t → IsCore u
+  -- whether the result differs by more than spans
+  pub changed : TellsChange now.changed t u
+  -- the result is that of so many rounds, the last of which changed nothing or not
+  pub rounds : Rounded (round_spec told) most t now.rounds now.reached u
+  -- where more rounds are allowed than the input weighs, the last one changes nothing
+  pub comes_to_end : weight t < most → now.reached ≡ true
+  -- there are at most as many rounds as the input weighs, and one more
+  pub few_rounds : now.rounds ≤ weight t + 1
+  -- where the last round changed nothing, a valid result leaves nothing to do
+  pub settled : now.reached ≡ true → valid u ≡ true → Settled told u

@@ -1,4 +1,5 @@
 //! The syntax tree, whether a tree is resolved and in the core, and what it weighs.
+pub use core_trees::{is_core, is_script_core};
 pub use swc_ast::{
     ArrayLit, ArrowExpr, AssignExpr, AssignOp, AssignPat, AssignTarget, BinExpr, BinaryOp,
     BlockStmt, BlockStmtOrExpr, Bool, BreakStmt, CallExpr, CatchClause, Compare, ComputedPropName,
@@ -12,5 +13,5 @@ pub use swc_ast::{
     SwitchStmt, SyntaxContext, ThisExpr, ThrowStmt, Tpl, TplElement, TryStmt, UnaryExpr, UnaryOp,
     UpdateExpr, UpdateOp, VarDecl, VarDeclKind, VarDeclOrExpr, VarDeclarator, WhileStmt,
 };
-pub use swc_resolved::{is_core, is_resolved, is_script_core, is_script_resolved};
+pub use swc_resolved::{is_resolved, is_script_resolved};
 pub use swc_weight::{weight, weight_of_script};

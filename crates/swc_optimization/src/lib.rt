@@ -7,6 +7,7 @@ ghost use Rattle.swc_optimization.specs.Laws.{RoundIsLawful, RowsAreRounds, Reac
 pub mod ast;
 mod config;
 mod passes;
+mod rounds;
 pub mod simplify;
 pub mod utils;
 

@@ -13,6 +13,7 @@ pub use swc_dce::TreeShaker;
 pub use swc_expr as expr;
 pub use swc_expr::{Config as ExprSimplifierConfig, SimplifyExpr, expr_simplifier};
 pub use swc_inlining as inlining;
+pub use swc_inlining::ScopeKind;
 
 /// Returns the simplifier for modules whose unresolved names have the mark.
 pub fn simplifier(unresolved_mark: Mark, config: Config) -> Simplifier

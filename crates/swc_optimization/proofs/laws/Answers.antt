@@ -1,5 +1,5 @@
 use Rattle.swc_optimization.specs.RoundLaws.{round_lawful}
-use Rattle.swc_optimization.proofs.Rounds.{rows_are_rounds}
+use Rattle.swc_optimization.proofs.Rows.{rows_are_rounds}
 use Rattle.swc_optimization.proofs.Settling.{reached_settled}
 use Rattle.swc_optimization.proofs.laws.Goals as goal
 

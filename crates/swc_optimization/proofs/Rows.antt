@@ -1,16 +1,13 @@
 -- The three passes in a row, again and again, are rounds.
-use Rattle.std.proofs.Common.{ℕ, Bool, true, ◌≡◌, refl, sym, subst, Some}
+use Rattle.std.proofs.Common.{ℕ, Bool, refl, sym, subst, Some}
 use Rattle.swc_ast.specs.declared.names.Mark.{Mark}
 use Rattle.swc_ast.specs.Marks.{mark_number}
-use Rattle.swc_ast.specs.Core.{IsCore}
-use Rattle.swc_ast.specs.Resolved.{IsResolved}
-use Rattle.swc_ast.specs.Run.{Same}
 use Rattle.swc_ast.specs.Tree.{Tree}
 use Rattle.swc_pass.specs.Chain.{MarksAgree, chained}
 use Rattle.swc_pass.specs.ChainLaws.{chained_lawful}
 use Rattle.swc_pass.specs.Pass.{PassSpec, IsLawful}
 use Rattle.swc_pass.specs.Repeat.{Rounds, none, changing, last, Rounded, Repeats}
-use Rattle.swc_pass.specs.RepeatLaws.{repeated_lawful, rounds_give}
+use Rattle.swc_pass.specs.RepeatLaws.{rounds_give}
 use Rattle.swc_expr.specs.Simplified.{simplify_spec, simplify_lawful}
 use Rattle.swc_expr.proofs.SimplifyLaw.{tells as simplify_tells}
 use Rattle.swc_branch.specs.Removed.{Removed, remove_spec, remove_lawful}
@@ -60,7 +57,7 @@ row_lawful : (told : Told) → IsLawful (one_row told)
 row_lawful told = chained_lawful (agree told.mark) (chained_lawful (agree told.mark) (simplify_lawful told.mark) (remove_lawful told.mark)) (shake_lawful told)
 
 -- rounds of one relation are rounds of a wider one
-wider_rounds : {A B : Tree → Tree → Type 0} (f : (t u : Tree) → A t u → B t u) {t u : Tree} {n : ℕ} {b : Bool} → Rounds A t n b u → Rounds B t n b u
+pub wider_rounds : {A B : Tree → Tree → Type 0} (f : (t u : Tree) → A t u → B t u) {t u : Tree} {n : ℕ} {b : Bool} → Rounds A t n b u → Rounds B t n b u
 wider_rounds f none = none
 wider_rounds f (changing {u = u} {v = v} s a d) = changing (wider_rounds f s) (f u v a) d
 wider_rounds f (last {u = u} s a) = last (wider_rounds f s) (f u u a)
@@ -76,9 +73,6 @@ rows_of_one told most t n b u r =
 
 pub rows_are_rounds : (s : (Mark × Mark) × Told) (most : ℕ) (t : Tree) (n : ℕ) (b : Bool) (u : Tree) → HasOneMark s → Repeats (row_spec s) most t n b u → Rounded (round_spec s.1) most t n b u
 rows_are_rounds s most t n b u e r = rows_of_one s.1 most t n b u (subst (λ m. Repeats (row_spec (m, s.1)) most t n b u) e r)
-
-pub rows_same : (s : (Mark × Mark) × Told) (most : ℕ) (t : Tree) (n : ℕ) (b : Bool) (u : Tree) → HasOneMark s → Repeats (row_spec s) most t n b u → IsResolved (mark_number s.1.mark) t → IsCore t → Same (mark_number s.1.mark) s.1.keeps_imports t u
-rows_same s most t n b u e r = (repeated_lawful (row_lawful s.1) most).same (mark_number s.1.mark) t u refl (n, b, subst (λ m. Repeats (row_spec (m, s.1)) most t n b u) e r)
 
 -- what each round keeps, rounds keep
 module _ {told : Told} (P : Tree → Type 0) (keeps : (t u : Tree) → Round told t u → P t → P u) where

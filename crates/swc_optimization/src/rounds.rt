@@ -1,0 +1,254 @@
+//! Rounds of the three passes. Rounds in which nothing but functions and variables of a module's own list goes are done at once.
+ghost use Rattle.std.specs.Prelude.{◌≡◌, ◌<◌, ◌≤◌, ◌||◌, false, Some, IfOk, IfErr};
+ghost use Rattle.swc_ast.specs.declared.errors.PassError.TheVariants.{OutOfMemory};
+ghost use Rattle.swc_pass.specs.Pass.{TellsChange};
+ghost use Rattle.swc_pass.specs.Repeat.{Rounds, Rounded};
+ghost use Rattle.swc_dce.specs.Configured.{told};
+ghost use Rattle.swc_dce.specs.Shaken.{Shaken};
+ghost use Rattle.round_laws.specs.Rested.{AtRest, Rested};
+ghost use Rattle.swc_optimization.specs.Simplifier.{round_spec};
+ghost use Rattle.swc_optimization.specs.Turns.{Cleared, Turned};
+
+use crate::config::Config;
+use std::alloc::Global;
+use std::marker::Model;
+use swc_ast::{Mark, Module, PassError, Script};
+use swc_branch::{Remover, dead_branch_remover};
+use swc_dce::{TreeShaker, dce};
+use swc_expr::{SimplifyExpr, expr_simplifier};
+use swc_pass::{Made, Pass, Repeated, Whole};
+
+/// The passes of a round, made with one mark.
+#[derive(Drop)]
+pub(crate) struct Passes {
+    expressions: SimplifyExpr,
+    branches: Remover,
+    names: TreeShaker,
+}
+
+impl Model for Passes {
+    ghost use Rattle.std.specs.Prelude.{◌≡◌};
+    ghost use Rattle.swc_dce.specs.Shaken.{Told};
+
+    ghost Value = { Told };
+
+    ghost view = { λ p. ⟦<TreeShaker as Pass>⟧.settings p.names };
+
+    ghost invariant = { λ p. (⟦<SimplifyExpr as Pass>⟧.settings p.expressions ≡ (⟦<TreeShaker as Pass>⟧.settings p.names).mark) × (⟦<Remover as Pass>⟧.settings p.branches ≡ (⟦<TreeShaker as Pass>⟧.settings p.names).mark) };
+}
+
+/// What rounds left, and how many they were.
+#[derive(Drop)]
+pub(crate) struct Left<W> {
+    whole: W,
+    rounds: usize,
+}
+
+/// What rounds made, how many they were, and whether the last one changed nothing.
+#[derive(Drop)]
+pub(crate) struct Ran<W> {
+    pub(crate) whole: W,
+    pub(crate) rounds: usize,
+    pub(crate) reached: bool,
+}
+
+/// The same of a turn of the loop, and whether all but the tree shaker changed nothing in it.
+#[derive(Drop)]
+struct Turn<W> {
+    ran: Ran<W>,
+    quiet: bool,
+}
+
+/// Modules and scripts, of which modules can have rounds at once.
+pub(crate) trait Peel: Whole {
+    /// What rounds leave in which nothing but functions and variables of a module's own list goes: so many at most, and maybe none.
+    fn peeled(self, names: &TreeShaker, alloc: Global, most: usize) -> Result<Left<Self>, PassError>
+        requires { AtRest (⟦<TreeShaker as Pass>⟧.settings names.now) (Self.tree self) }
+        ensures within { IfOk result (λ r. r.rounds ≤ most) }
+        ensures rounds { IfOk result (λ r. Rounds (Rested (⟦<TreeShaker as Pass>⟧.settings names.now)) (Self.tree self) r.rounds false (Self.tree r.whole)) }
+        ensures rests { IfOk result (λ r. AtRest (⟦<TreeShaker as Pass>⟧.settings names.now) (Self.tree r.whole)) }
+        ensures memory { IfErr result (λ e. e ≡ OutOfMemory) };
+}
+
+impl Peel for Module {
+    fn peeled(
+        self,
+        names: &TreeShaker,
+        alloc: Global,
+        most: usize,
+    ) -> Result<Left<Module>, PassError> {
+        let peeled = names.peel(alloc, self, most)?;
+        Ok(Left {
+            whole: peeled.module,
+            rounds: peeled.rounds,
+        })
+    }
+}
+
+impl Peel for Script {
+    fn peeled(
+        self,
+        _names: &TreeShaker,
+        _alloc: Global,
+        _most: usize,
+    ) -> Result<Left<Script>, PassError> {
+        Ok(Left {
+            whole: self,
+            rounds: 0,
+        })
+    }
+}
+
+fn either(first: bool, second: bool) -> bool
+    ensures { result ≡ (first || second) }
+{
+    first || second
+}
+
+impl Passes {
+    /// The passes as they are told by a configuration.
+    pub(crate) fn new(unresolved_mark: Mark, config: Config) -> Passes
+        ensures { result ≡ told unresolved_mark config.dce }
+    {
+        Passes {
+            expressions: expr_simplifier(unresolved_mark, config.expr),
+            branches: dead_branch_remover(unresolved_mark),
+            names: dce(config.dce, unresolved_mark),
+        }
+    }
+
+    /// The mark of all of them.
+    pub(crate) fn mark(&self) -> Option<Mark>
+        ensures { result ≡ Some self.now.mark }
+    {
+        self.names.mark()
+    }
+
+    /// What the expression simplifier and then the remover make of it.
+    fn clear<W: Whole>(&mut self, alloc: Global, whole: W) -> Result<Made<W>, PassError>
+        ensures told { self.new ≡ self.old }
+        ensures answer { IfOk result (λ r. Cleared self.old (W.tree whole) (W.tree r.whole)) }
+        ensures changed { IfOk result (λ r. TellsChange r.changed (W.tree whole) (W.tree r.whole)) }
+        ensures memory { IfErr result (λ e. e ≡ OutOfMemory) }
+    {
+        let simplified = whole.rewritten(&mut self.expressions, alloc)?;
+        let removed = simplified.rewritten(&mut self.branches, alloc)?;
+        let first = self.expressions.changed();
+        let second = self.branches.changed();
+        let changed = either(first, second);
+        Ok(Made {
+            whole: removed,
+            changed,
+        })
+    }
+
+    /// What the tree shaker makes of it.
+    fn shake<W: Whole>(&mut self, alloc: Global, whole: W) -> Result<Made<W>, PassError>
+        ensures told { self.new ≡ self.old }
+        ensures answer { IfOk result (λ r. Shaken self.old (W.tree whole) (W.tree r.whole)) }
+        ensures changed { IfOk result (λ r. TellsChange r.changed (W.tree whole) (W.tree r.whole)) }
+        ensures memory { IfErr result (λ e. e ≡ OutOfMemory) }
+    {
+        let shaken = whole.rewritten(&mut self.names, alloc)?;
+        let changed = self.names.changed();
+        Ok(Made {
+            whole: shaken,
+            changed,
+        })
+    }
+
+    /// Rounds of what the other passes leave as it is: those that can be done at once, and then one of the tree shaker.
+    fn shake_at_rest<W: Peel>(
+        &mut self,
+        alloc: Global,
+        most: usize,
+        whole: W,
+    ) -> Result<Ran<W>, PassError>
+        requires some { 0 < most }
+        requires rests { AtRest self.old (W.tree whole) }
+        ensures told { self.new ≡ self.old }
+        ensures turned { IfOk result (λ r. Turned self.old most (W.tree whole) r.rounds r.reached (W.tree r.whole)) }
+        ensures memory { IfErr result (λ e. e ≡ OutOfMemory) }
+    {
+        let left = whole.peeled(&self.names, alloc, most)?;
+        if left.rounds == most {
+            return Ok(Ran {
+                whole: left.whole,
+                rounds: most,
+                reached: false,
+            });
+        }
+        let shaken = self.shake(alloc, left.whole)?;
+        Ok(Ran {
+            whole: shaken.whole,
+            rounds: left.rounds + 1,
+            reached: !shaken.changed,
+        })
+    }
+
+    /// A round, or several: behind a round in which all but the tree shaker changed nothing, those that can be done at once.
+    fn turn<W: Peel>(
+        &mut self,
+        alloc: Global,
+        most: usize,
+        quiet: bool,
+        whole: W,
+    ) -> Result<Turn<W>, PassError>
+        requires { 0 < most }
+        ensures told { self.new ≡ self.old }
+        ensures turned { IfOk result (λ r. Turned self.old most (W.tree whole) r.ran.rounds r.ran.reached (W.tree r.ran.whole)) }
+        ensures memory { IfErr result (λ e. e ≡ OutOfMemory) }
+    {
+        let made = self.clear(alloc, whole)?;
+        if quiet && !made.changed {
+            let ran = self.shake_at_rest(alloc, most, made.whole)?;
+            return Ok(Turn { ran, quiet: true });
+        }
+        let shaken = self.shake(alloc, made.whole)?;
+        let changed = either(made.changed, shaken.changed);
+        let ran = Ran {
+            whole: shaken.whole,
+            rounds: 1,
+            reached: !changed,
+        };
+        Ok(Turn {
+            ran,
+            quiet: !made.changed,
+        })
+    }
+}
+
+/// Rounds of the passes, until one of them changes nothing or there are so many.
+pub(crate) fn run_rounds<W: Peel>(
+    passes: &mut Passes,
+    alloc: Global,
+    max_rounds: usize,
+    whole: W,
+) -> Result<Ran<W>, PassError>
+    ensures told { passes.new ≡ passes.old }
+    ensures rounds { IfOk result (λ r. Rounded (round_spec passes.old) max_rounds (W.tree whole) r.rounds r.reached (W.tree r.whole)) }
+    ensures memory { IfErr result (λ e. e ≡ OutOfMemory) }
+{
+    let mut whole = whole;
+    let mut quiet = false;
+    let mut done = 0;
+    while done < max_rounds {
+        let turn = passes.turn(alloc, max_rounds - done, quiet, whole)?;
+        let ran = turn.ran;
+        quiet = turn.quiet;
+        whole = ran.whole;
+        done += ran.rounds;
+        if ran.reached {
+            return Ok(Ran {
+                whole,
+                rounds: done,
+                reached: true,
+            });
+        }
+    }
+    Ok(Ran {
+        whole,
+        rounds: done,
+        reached: false,
+    })
+}
