@@ -24,9 +24,9 @@ both e = ap (λ b. (b && true) && ((b && true) && true)) e
 more_targets : (g : Targets) → More no_targets g
 more_targets g = record { more_labels = no_labels g.labels; more_loops = no_labels g.loops; more_own = no_labels g.own; more_break = λ e. absurd (false≢true e); more_continue = λ e. absurd (false≢true e) }
 
-pub givable_of : (n : ℕ) (t m : Tree) → is_expression (label_of t) ≡ true → m ≡ twice t → valid m ≡ true → IsResolved n m → IsCore m → IsGivable t
+givable_of : (n : ℕ) (t m : Tree) → is_expression (label_of t) ≡ true → m ≡ twice t → IsResolved n m → IsCore m → IsGivable t
 unfolding own_scopes
-givable_of n t m e is v r c =
+givable_of n t m e is r c =
     let r2 : IsResolved n (twice t) = subst (IsResolved n) is r in
     let c2 : IsCore (twice t) = subst IsCore is c in
     record {
@@ -39,9 +39,6 @@ givable_of n t m e is v r c =
     }
 
 module _ (t m : Tree) (is : m ≡ twice t) (g : IsGivable t) where
-  pub twice_valid : valid m ≡ true
-  twice_valid = subst (λ x. valid x ≡ true) (sym is) (both g.is_valid)
-
   resolved : (n : ℕ) → IsResolved n (twice t)
   unfolding own_scopes
   resolved n = record {
@@ -52,16 +49,12 @@ module _ (t m : Tree) (is : m ≡ twice t) (g : IsGivable t) where
     exports_are_bound = refl;
   }
 
-  pub twice_resolved : (n : ℕ) → IsResolved n m
+  twice_resolved : (n : ℕ) → IsResolved n m
   twice_resolved n = subst (IsResolved n) (sym is) (resolved n)
 
-  pub twice_core : IsCore m
+  twice_core : IsCore m
   twice_core = subst IsCore (sym is) (record { is_valid = both g.is_valid; fits_core = both g.in_core })
 
--- where the module is good, its core test decides
-pub core_decides : (n : ℕ) (t m : Tree) (b : Bool) → is_expression (label_of t) ≡ true → m ≡ twice t → (valid m ≡ true) × IsResolved n m → (valid m ≡ true → (IsTrue b ↔ IsCore m)) → IsTrue b ↔ IsGivable t
-core_decides n t m b e is p h = (λ q. givable_of n t m e is p.0 p.1 ((h p.0).0 q), λ g. (h p.0).1 (twice_core t m is g))
-
--- where it isn't, nothing is givable
-pub none_givable : (n : ℕ) (t m : Tree) (b : Bool) → m ≡ twice t → b ≡ false → (IsTrue b ↔ (valid m ≡ true) × IsResolved n m) → IsTrue false ↔ IsGivable t
-none_givable n t m b is bad h = (λ q. absurd (false≢true q), λ g. sym bad ∙ h.1 (twice_valid t m is g, twice_resolved t m is g n))
+-- the test of the module decides
+pub module_decides : (n : ℕ) (t m : Tree) (b : Bool) → is_expression (label_of t) ≡ true → m ≡ twice t → (IsTrue b ↔ IsCore m × IsResolved n m) → IsTrue b ↔ IsGivable t
+module_decides n t m b e is h = (λ q. let p = h.0 q in givable_of n t m e is p.1 p.0, λ g. h.1 (twice_core t m is g, twice_resolved t m is g n))

@@ -11,7 +11,7 @@ ghost use Rattle.shake_given.specs.declared.error.GivenError.TheVariants.{OutOfM
 use crate::error::GivenError;
 use std::alloc::{AllocError, Global};
 use swc_ast::{DUMMY_SP, Expr, ExprStmt, Lit, Mark, MemberProp, Module, ModuleItem, Stmt};
-use swc_resolved::{is_core, is_valid_and_resolved};
+use swc_resolved::is_core_and_resolved;
 
 /// Whether an expression is a name, or a chain of members that begins with one, and whose keys are names and texts.
 #[tactic(auto, using(swc_ast::proofs::Equations::forms, crate::proofs::Chains::chain_member))]
@@ -61,12 +61,8 @@ pub(crate) fn is_givable(alloc: Global, value: &Expr, mark: Mark) -> Result<bool
     ensures memory { IfErr result (λ e. e ≡ OutOfMemory) }
 {
     let twice = twice(alloc, value)?;
-    let is_good = is_valid_and_resolved(alloc, &twice, mark)?;
-    if is_good {
-        Ok(is_core(alloc, &twice)?)
-    } else {
-        Ok(false)
-    }
+    let is_good = is_core_and_resolved(alloc, &twice, mark)?;
+    Ok(is_good)
 }
 
 /// A module in which an expression stands twice.

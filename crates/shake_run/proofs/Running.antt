@@ -16,8 +16,7 @@ use Rattle.swc_dce.specs.Configured.{told}
 use Rattle.swc_dce.specs.Shaken.{Told, shake_spec}
 use Rattle.swc_dce.specs.declared.config.Config.{Config}
 use Rattle.swc_json_parse.specs.Answers.{Parsed}
-use Rattle.swc_pass.specs.Repeat.{Rounded}
-use Rattle.swc_optimization.specs.Simplifier.{round_spec, rounds_spec}
+use Rattle.swc_optimization.specs.Simplifier.{rounds_spec, Simplifying, Simplifies}
 use Rattle.shake_run.specs.Passes.{told_by, json_spec, pass_of, pass_by}
 use Rattle.shake_options.specs.declared.options.Options.{Options}
 use Rattle.shake_options.specs.declared.options.PassName.{PassName}
@@ -57,8 +56,8 @@ pub answers_as : {A E : Type 0} (f : A → Tree) (r : Result A E) (t : Tree) {p 
 answers_as f r t is a = subst (λ q. IfOk r (λ x. q.answers t (f x))) is a
 
 -- rounds are an answer of the simplifier, however many they are and whether or not the last one changed nothing
-pub rounds_answer : {A E : Type 0} (f : A → Tree) (r : Result A E) (t : Tree) (s : Told) (most n : ℕ) (reached : Bool) → IfOk r (λ x. Rounded (round_spec s) most t n reached (f x)) → IfOk r (λ x. (rounds_spec s most).answers t (f x))
-rounds_answer f r t s most n reached a = IfOk-weaker r _ _ (λ x k. (n, reached, k)) a
+pub rounds_answer : {A E : Type 0} (f : A → Tree) (r : Result A E) (t : Tree) (s : Told) (most : ℕ) (now : Simplifying) → IfOk r (λ x. Simplifies s most now t (f x)) → IfOk r (λ x. (rounds_spec s most).answers t (f x))
+rounds_answer f r t s most now a = IfOk-weaker r _ _ (λ x k. (now.rounds, now.reached, k.rounds)) a
 
 -- what literals are replaced in stays resolved
 pub stays_resolved : {A E : Type 0} (f : A → Tree) (r : Result A E) (least n : ℕ) (t : Tree) → IfOk r (λ x. Parsed least t (f x)) → IfOk r (λ x. IsResolved n t → IsResolved n (f x))

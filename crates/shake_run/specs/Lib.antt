@@ -1,3 +1,4 @@
 pub mod Flagged
 pub mod Passes
 pub mod Status
+pub mod Done

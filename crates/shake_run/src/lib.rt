@@ -1,6 +1,7 @@
 //! The work of the program `shake`: reads a module, runs a pass on it and prints the answer.
 #![tactic(auto)]
 
+mod answer;
 mod fault;
 mod flagged;
 mod input;

@@ -1,19 +1,20 @@
 //! From the words of a command line and a reader to a writer.
 ghost use Rattle.std.specs.Prelude.{◌≡◌, ◌≢◌, ◌≤◌, ◌↔◌, IsNone, IfOk, IfErr, map, string_bytes};
 ghost use Rattle.shake_options.specs.CommandLine.{command_line};
+ghost use Rattle.shake_run.specs.Done.{Done};
 ghost use Rattle.shake_run.specs.Status.{status_of};
 ghost use Rattle.shake_run.specs.declared.fault.Fault.TheVariants.{Arguments, Print, Output};
 ghost use Rattle.swc_text.specs.declared.error.PrintError.TheVariants.{Invalid};
 
+use crate::answer::answer;
 use crate::fault::Fault;
-use crate::flagged::run_pass;
 use crate::input::read_text;
 use shake_options::{Options, flags_of, retained};
 use std::alloc::Global;
 use std::io::{Read, Write};
 use std::mem::ManuallyDrop;
 use swc_ast::Mark;
-use swc_text::{print, read_module};
+use swc_text::print;
 
 /// The program's work: `args` are the words behind its name. Reads a module from `reader`, with the unresolved mark 1,
 /// runs the pass that the first word names and writes the answer. Gives the exit status: 0; 1 on a failure, with one
@@ -32,6 +33,8 @@ pub fn run<R: Read, W: Write, E: Write>(
     ensures unread { result ≡ 2 → reader.new ≡ reader.old }
     ensures unwritten { result ≡ 2 → writer.new ≡ writer.old }
     ensures silent { result ≡ 0 → errors.new ≡ errors.old }
+    // There is a module that the text was read as, resolved and in the core, and a module that does the same was printed.
+    ensures done { result ≡ 0 → Done (map string_bytes args.now) }
 {
     match work(alloc, args, reader, writer) {
         Ok(()) => 0,
@@ -55,6 +58,7 @@ fn work<R: Read, W: Write>(
     writer: &mut W,
 ) -> Result<(), Fault>
     ensures ok { IfOk result (λ u. command_line (map string_bytes args.now) ≢ None) }
+    ensures done { IfOk result (λ _. Done (map string_bytes args.now)) }
     ensures arguments { IfErr result (λ fault. (fault ≡ Arguments) ↔ IsNone (command_line (map string_bytes args.now))) }
     ensures unread { IfErr result (λ fault. fault ≡ Arguments → reader.new ≡ reader.old) }
     ensures unwritten { IfErr result (λ fault. fault ≢ Output → writer.new ≡ writer.old) }
@@ -65,14 +69,20 @@ fn work<R: Read, W: Write>(
     let flags = flags_of(alloc, args).map_err(|_| Fault::OutOfMemory)?;
     let text = read_text(alloc, reader)?;
     let mark = Mark::new(1).unwrap();
-    let module = read_module(alloc, text.as_str(), mark).map_err(Fault::Read)?;
-    let simpler = run_pass(alloc, options, retained, flags.as_slice(), mark, module)?;
+    let simpler = answer(
+        alloc,
+        options,
+        retained,
+        flags.as_slice(),
+        mark,
+        text.as_str(),
+    )?;
     // The process ends behind this, so nothing is won by dropping the tree.
     let simpler = ManuallyDrop::new(simpler);
     // The text is whole before the first write.
-    let answer = print(alloc, &simpler).map_err(Fault::Print)?;
+    let printed = print(alloc, &simpler).map_err(Fault::Print)?;
     writer
-        .write_all(answer.as_bytes())
+        .write_all(printed.as_bytes())
         .map_err(|_| Fault::Output)?;
     writer.flush().map_err(|_| Fault::Output)
 }

@@ -11,4 +11,4 @@ returns-clause-prepared c = put_prepared (map flag_texts c.args.flags.now) c.arg
 pub returns-clause-stays : goal.returns-clause-stays
 returns-clause-stays c =
     put_stays (map flag_texts c.args.flags.now) c.args.mark (module_tree c.args.module) (module_tree c.in_ok-constant.constant) c.in_ok-names.field-0 c.in_ok-names.ensures c.in_ok-constant.ensures c.put.result c.put.ensures
-    (subst IsSorted c.drop-2.view_is c.drop-2.invariant)
+    (subst IsSorted c.names-2.view_is c.names-2.invariant)

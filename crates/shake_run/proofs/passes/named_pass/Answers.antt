@@ -19,7 +19,7 @@ returns-in-Dce-clause-answers c =
 pub returns-in-Simplify-clause-answers : goal.returns-in-Simplify-clause-answers
 returns-in-Simplify-clause-answers c =
     let told = told_is c.args.mark c.args.options _ c.shaking-in-Simplify.result c.shaking-in-Simplify.ensures.top_level (ap (λ v. map string_bytes v.items) c.shaking-in-Simplify.ensures.top_retain) c.shaking-in-Simplify.ensures.imports in
-    answers_as module_tree c.fold_module-in-Simplify.result _ (is_simplify c.args.mark c.args.options _ c.in-Simplify.is (c.simplifier-pass.ensures.told ∙ told) c.simplifier-pass.ensures.most) (rounds_answer module_tree c.fold_module-in-Simplify.result _ _ _ _ _ c.fold_module-in-Simplify.ensures.rounds)
+    answers_as module_tree c.fold_module-in-Simplify.result _ (is_simplify c.args.mark c.args.options _ c.in-Simplify.is (c.simplifier-pass.ensures.told ∙ told) c.simplifier-pass.ensures.most) (rounds_answer module_tree c.fold_module-in-Simplify.result _ _ _ _ c.fold_module-in-Simplify.ensures.simplified)
 
 pub returns-in-Const-clause-answers : goal.returns-in-Const-clause-answers
 returns-in-Const-clause-answers c = answers_as module_tree c.fold_module-in-Const.result _ (is_const c.args.mark c.args.options (map string_bytes c.args.retained.items) c.in-Const.is) c.fold_module-in-Const.ensures.answer
