@@ -1,11 +1,14 @@
 //! Memory that is refused once, at whichever request: `rt try --test --fail-alloc N` refuses the N-th. What is refused says so, and
 //! gives the right answer when it is asked again.
 use std::alloc::{AllocError, Global};
+use std::collections::BTreeMap;
 use std::process::Abort;
 use std::test::Fail;
-use swc_ast::{Expr, Mark, Module, PassError};
+use swc_ast::{DUMMY_SP, Expr, Lit, Mark, Module, PassError, Str};
+use swc_const_modules::{ConstModules, const_modules};
 use swc_const_propagation::constant_propagation;
 use swc_expr_map::GlobalExprMap;
+use swc_inline_globals::inline_globals;
 use swc_inlining::inlining;
 use swc_json_parse::json_parse;
 use swc_optimization::{Config, simplifier};
@@ -135,6 +138,108 @@ fn literals_are_refused_and_taken_then(rt: HostRuntime) -> Result<(), Fail> {
         }
     };
     assert!(rt; is_printed(&rt, alloc, &answer, "f(JSON.parse('{\"b\":1,\"a\":2}'));\n")?);
+    Ok(())
+}
+
+/// What is given for a member of `process.env`.
+fn environment(alloc: Global) -> Result<BTreeMap<String, Expr>, PassError> {
+    let value = Expr::Lit(Lit::Str(Str {
+        span: DUMMY_SP,
+        value: String::from_str(alloc, "development")?,
+    }));
+    let mut envs = BTreeMap::new(alloc);
+    envs.insert(String::from_str(alloc, "NODE_ENV")?, value)?;
+    Ok(envs)
+}
+
+#[test]
+fn members_are_refused_and_put_then(rt: HostRuntime) -> Result<(), Fail> {
+    let alloc = rt.alloc();
+    let mark = Mark::new(1).expect(&rt, "1 is a mark");
+    let envs = match environment(alloc) {
+        Ok(envs) => envs,
+        Err(error) => {
+            assert!(rt; error == PassError::OutOfMemory);
+            environment(alloc)?
+        }
+    };
+    let (globals, typeofs) = (BTreeMap::new(alloc), BTreeMap::new(alloc));
+    let module = read(&rt, alloc, "if (process.env.NODE_ENV === 'development') {}")?;
+    let before = copied(&module)?;
+    let mut pass = inline_globals(&envs, &globals, &typeofs).with_mark(mark);
+    let answer = match pass.run(alloc, &module) {
+        Ok(answer) => answer,
+        Err(error) => {
+            assert!(rt; error == PassError::OutOfMemory && !pass.changed());
+            pass.run(alloc, &module)?
+        }
+    };
+    assert!(rt;
+        is_printed(
+            &rt,
+            alloc,
+            &answer,
+            "if ('development' === 'development') {}\n"
+        )?
+    );
+    assert!(rt; module == before);
+    Ok(())
+}
+
+/// The pass that is given an export.
+fn given(rt: &impl Abort, alloc: Global) -> Result<ConstModules, PassError> {
+    let mark = Mark::new(1).expect(rt, "1 is a mark");
+    let mut exports = BTreeMap::new(alloc);
+    exports.insert(
+        String::from_str(alloc, "A")?,
+        String::from_str(alloc, "true")?,
+    )?;
+    let mut modules = BTreeMap::new(alloc);
+    modules.insert(String::from_str(alloc, "env")?, exports)?;
+    const_modules(alloc, &modules, mark)
+}
+
+/// Whether it is told that a name is no export, or is exported again.
+fn is_told(error: &PassError, wanted: &str) -> bool {
+    match error {
+        PassError::MissingExport { module, export } => {
+            module.as_str() == "env" && export.as_str() == wanted
+        }
+        PassError::ReExported { name } => name.as_str() == wanted,
+        _ => false,
+    }
+}
+
+/// Memory that is refused is told as such, and what the pass refuses of itself is told then.
+#[test]
+fn given_imports_are_refused_and_put_then(rt: HostRuntime) -> Result<(), Fail> {
+    let alloc = rt.alloc();
+    let mut pass = match given(&rt, alloc) {
+        Ok(pass) => pass,
+        Err(error) => {
+            assert!(rt; error == PassError::OutOfMemory);
+            given(&rt, alloc)?
+        }
+    };
+    let rows: [Row; 3] = [
+        ("import {A as b} from 'env'; f(b);", "f(true);\n"),
+        ("import {B} from 'env';", "B"),
+        ("import {A as b} from 'env'; export {b};", "b"),
+    ];
+    for (text, wanted) in rows {
+        let module = read(&rt, alloc, text)?;
+        let before = copied(&module)?;
+        let mut answer = pass.run(alloc, &module);
+        if let Err(PassError::OutOfMemory) = &answer {
+            assert!(rt; !pass.changed(), "{text}");
+            answer = pass.run(alloc, &module);
+        }
+        match answer {
+            Ok(answer) => assert!(rt; is_printed(&rt, alloc, &answer, wanted)?, "{text}"),
+            Err(error) => assert!(rt; is_told(&error, wanted), "{text}"),
+        }
+        assert!(rt; module == before, "{text}");
+    }
     Ok(())
 }
 

@@ -9,7 +9,7 @@ use swc_inline_globals::inline_globals2;
 use swc_json_parse::json_parse;
 use swc_optimization::{Config, simplifier};
 use swc_pass::{Pass, Repeated};
-use swc_resolved::is_valid_and_resolved;
+use swc_resolved::is_core_and_resolved;
 use swc_text::{ReadError, print, read_expr, read_module};
 
 /// A function whose list ends before its end.
@@ -21,7 +21,7 @@ fn each_beginning_is_resolved_or_refused(rt: HostRuntime) -> Result<(), Fail> {
     let mark = Mark::new(1).expect(&rt, "1 is a mark");
     for end in 0..ENDS.len() {
         match read_module(alloc, ENDS.get(..end).unwrap_or(""), mark) {
-            Ok(module) => assert!(rt; is_valid_and_resolved(alloc, &module, mark)?, "{end}"),
+            Ok(module) => assert!(rt; is_core_and_resolved(alloc, &module, mark)?, "{end}"),
             Err(ReadError::Syntax { at }) => assert!(rt; at as usize <= end, "{end}"),
             Err(error) => assert!(rt; false, "{end}: {error}"),
         }

@@ -7,7 +7,7 @@ use swc_ast::{
     LabeledStmt, Mark, Script, SeqExpr, Stmt, SwitchStmt, Tpl, TryStmt, VarDeclKind, WhileStmt,
 };
 use swc_debug::is_valid;
-use swc_resolved::is_valid_and_resolved;
+use swc_resolved::is_core_and_resolved;
 use swc_text::{PrintError, print, read_module, read_script};
 use test_trees::{
     block, declare, function, ident, module, number, param, param_with_default, span, statement,
@@ -167,7 +167,7 @@ fn unresolved_trees_come_back(rt: HostRuntime) -> Result<(), Fail> {
     let mark = Mark::new(1).expect(&rt, "1 is a mark");
     for s in unresolved(alloc)? {
         let (a, b) = (module(alloc, s.clone()?)?, script(alloc, s)?);
-        assert!(rt; !is_valid_and_resolved(alloc, &a, mark)?);
+        assert!(rt; !is_core_and_resolved(alloc, &a, mark)?);
         each_runs(alloc, mark, &a, &b)?;
     }
     Ok(())
@@ -188,7 +188,7 @@ fn trees_of_another_mark_come_back(rt: HostRuntime) -> Result<(), Fail> {
     let b = read_script(alloc, BINDS, first)?;
     for number in [2, 3] {
         let mark = Mark::new(number).expect(&rt, "a mark");
-        assert!(rt; !is_valid_and_resolved(alloc, &a, mark)?);
+        assert!(rt; !is_core_and_resolved(alloc, &a, mark)?);
         each_runs(alloc, mark, &a, &b)?;
     }
     Ok(())

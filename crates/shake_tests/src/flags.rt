@@ -31,7 +31,7 @@ fn refused(rt: &impl Abort, alloc: Global, status: u8, rows: &[Row]) -> Result<(
 
 #[test]
 fn puts_what_is_given(rt: HostRuntime) -> Result<(), Fail> {
-    let rows: [Row; 14] = [
+    let rows: [Row; 15] = [
         (
             &[
                 "simplify",
@@ -87,6 +87,11 @@ fn puts_what_is_given(rt: HostRuntime) -> Result<(), Fail> {
             &["simplify", "--const", "env:A=true"],
             "import {A as b} from 'env'; if (b) f();",
             "f();\n",
+        ),
+        (
+            &["expr", "--const", "env:A=7"],
+            "import {A} from 'env'; f(A ** 9);",
+            "f(40353607);\n",
         ),
         (
             &["dce", "--const", "node:env:default=2"],

@@ -5,3 +5,9 @@
 mod calls;
 #[cfg(test)]
 mod chains;
+#[cfg(test)]
+mod paths;
+#[cfg(test)]
+mod peels;
+#[cfg(test)]
+mod rounds;

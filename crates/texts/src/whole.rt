@@ -1,10 +1,11 @@
 //! What becomes of whole texts.
 use crate::passes::AnyPass;
+use core_trees::{is_core, is_script_core};
 use std::alloc::Global;
 use std::fmt::Write;
 use swc_ast::{Mark, Module};
 use swc_debug::{is_script_valid, is_valid};
-use swc_resolved::{is_core, is_resolved, is_script_core, is_script_resolved};
+use swc_resolved::{is_resolved, is_script_resolved};
 use swc_text::{print, print_script, read_module, read_script};
 
 /// What is told of a text as a module.
