@@ -3,6 +3,7 @@ pub mod Constants
 pub mod Doubled
 pub mod Kept
 pub mod Names
+pub mod Deep
 pub mod Stay
 pub mod Texts
 pub mod Turns

@@ -1,5 +1,5 @@
 -- What becomes of a module in front of a pass.
-use Rattle.std.specs.Prelude.{ℕ, ◌≡◌, Bool, true, List, [], Some, max}
+use Rattle.std.specs.Prelude.{ℕ, ◌≡◌, Bool, true, List, [], Some, min, max}
 use Rattle.swc_ast.specs.Core.{IsCore}
 use Rattle.swc_ast.specs.Marks.{mark_number}
 use Rattle.swc_ast.specs.Resolved.{IsResolved}
@@ -58,9 +58,10 @@ pub data Prepared (fs : List FlagText) (mark : Mark) (t u : Tree) : Type 0 where
   unflagged : fs ≡ [] → u ≡ t → Prepared fs mark t u
   flagged : Flagged fs mark t u → Prepared fs mark t u
 
--- how many levels of expressions and statements a module may have by what flags give
+-- how many levels of expressions and statements a module may have by what flags give: a thousand, or as many as it has, which
+-- are counted up to 2^32 - 1
 abbrev pub most_levels : Tree → ℕ
-most_levels t = max 1000 (levels t)
+most_levels t = max 1000 (min (levels t) 4294967295)
 
 -- what is valid, resolved or core stays so
 pub record Stays (t u : Tree) : Type 0 where

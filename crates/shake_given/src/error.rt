@@ -2,6 +2,7 @@
 ghost use Rattle.std.specs.Prelude.{◌≡◌};
 ghost use Rattle.swc_ast.specs.declared.errors.PassError.TheVariants as pass;
 ghost use Rattle.shake_given.specs.declared.error.GivenError.TheVariants.{OutOfMemory};
+ghost use Rattle.shake_given.specs.Refusals.{IsOther};
 
 use crate::line::Line;
 use std::alloc::{AllocError, AllocFailed};
@@ -75,7 +76,7 @@ impl<T: Drop> From<AllocFailed<T>> for GivenError {
 /// The same refusal, in the words of the program. A value whose text isn't read is told by its text's key, so that no pass
 /// tells it.
 impl From<PassError> for GivenError {
-    ghost from_gives = { λ p e. p ≡ pass.OutOfMemory → e ≡ OutOfMemory };
+    ghost from_gives = { λ p e. (p ≡ pass.OutOfMemory → e ≡ OutOfMemory) × IsOther e };
 
     fn from(error: PassError) -> GivenError {
         match error {

@@ -1,5 +1,8 @@
 //! What is given, put into a module.
-ghost use Rattle.std.specs.Prelude.{◌≡◌, ◌≢◌, ◌≤◌, [], IfOk, IfErr, map};
+ghost use Rattle.std.specs.Prelude.{◌≡◌, ◌≢◌, ◌≤◌, [], IfOk, IfErr, map, max};
+ghost use Rattle.shake_given.specs.declared.error.GivenError.TheVariants.{TooDeep};
+ghost use Rattle.shake_given.specs.Refusals.{IsOther};
+ghost use Rattle.shake_given.specs.Deep.{Counted, Nested, NamesWithin, NamesNest, Within, IsTooDeep};
 ghost use Rattle.swc_ast.specs.Modules.{module_tree};
 ghost use Rattle.swc_levels.specs.Levels.{levels};
 ghost use Rattle.shake_options.specs.Flags.{flag_texts};
@@ -34,7 +37,9 @@ pub fn prepare(
     ensures prepared { IfOk result (λ r. Prepared (map flag_texts flags.now) mark (module_tree «module») (module_tree r)) }
     ensures stays { IfOk result (λ r. Stays (module_tree «module») (module_tree r)) }
     ensures unflagged { IfOk result (λ r. flags.now ≡ [] → module_tree r ≡ module_tree «module») }
-    ensures levels { IfOk result (λ r. levels (module_tree r) ≤ most_levels (module_tree «module»)) }
+    ensures levels { IfOk result (λ r. levels (module_tree r) ≤ max 1000 (levels (module_tree «module»))) }
+    ensures within { IfOk result (λ r. Within (map flag_texts flags.now) mark (module_tree «module»)) }
+    ensures too_deep { IfErr result (λ e. e ≡ TooDeep → IsTooDeep (map flag_texts flags.now) mark (module_tree «module»)) }
     ensures refused { IfErr result (λ _. flags.now ≢ []) }
 {
     if flags.is_empty() {
@@ -48,13 +53,13 @@ pub fn prepare(
     Ok(prepared)
 }
 
-/// How many levels a module may have by what is given: if it has more, as many as it has.
+/// How many levels a module may have by what is given: if it has more, as many as it has, up to the greatest `u32`.
 fn most_levels(module: &Module) -> u32
-    ensures { result ≤ most_levels (module_tree «module».now) }
+    ensures { result ≡ most_levels (module_tree «module».now) }
 {
     match levels_of_module(module, u32::MAX) {
         Some(levels) => levels.max(MOST_LEVELS),
-        None => MOST_LEVELS,
+        None => u32::MAX,
     }
 }
 
@@ -68,6 +73,8 @@ fn put_all(
 ) -> Result<Module, GivenError>
     ensures prepared { IfOk result (λ r. Prepared (map flag_texts flags.now) mark (module_tree «module») (module_tree r)) }
     ensures stays { IfOk result (λ r. Stays (module_tree «module») (module_tree r)) }
+    ensures within { IfOk result (λ r. NamesWithin (map flag_texts flags.now) mark most (module_tree «module»)) }
+    ensures too_deep { IfErr result (λ e. e ≡ TooDeep → NamesNest (map flag_texts flags.now) mark most (module_tree «module»)) }
 {
     let Given { names, modules } = Given::read(alloc, flags, mark)?;
     let constant = replace(alloc, modules, module)?;
@@ -76,7 +83,8 @@ fn put_all(
 
 /// A module with the values of imports of given modules.
 fn replace(alloc: Global, given: GivenModules<Expr>, module: Module) -> Result<Module, GivenError>
-    ensures { IfOk result (λ r. Replaces given (module_tree «module») (module_tree r)) }
+    ensures replaces { IfOk result (λ r. Replaces given (module_tree «module») (module_tree r)) }
+    ensures other { IfErr result IsOther }
 {
     if given.modules.is_empty() {
         return Ok(module);
@@ -93,7 +101,9 @@ fn put(
     module: Module,
     most: u32,
 ) -> Result<Module, GivenError>
-    ensures { IfOk result (λ r. Puts given.now mark (module_tree «module») (module_tree r)) }
+    ensures puts { IfOk result (λ r. Puts given.now mark (module_tree «module») (module_tree r)) }
+    ensures within { IfOk result (λ r. Counted given.now mark most (module_tree «module»)) }
+    ensures too_deep { IfErr result (λ e. e ≡ TooDeep → Nested given.now mark most (module_tree «module»)) }
 {
     if given.exprs.len() == 0 && given.envs.is_empty() && given.typeofs.is_empty() {
         return Ok(module);

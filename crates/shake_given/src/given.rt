@@ -1,9 +1,10 @@
 //! What flags give, read.
-ghost use Rattle.std.specs.Prelude.{IfOk, OnOk, map};
+ghost use Rattle.std.specs.Prelude.{IfOk, IfErr, OnOk, map};
 ghost use Rattle.swc_ast.specs.Views.{expr_tree};
 ghost use Rattle.swc_given.specs.Givable.{IsGivable};
 ghost use Rattle.shake_options.specs.Flags.{flag_texts};
 ghost use Rattle.shake_given.specs.Reads.{IsNothing, Defines, SetsEnv, SetsType, Exports, Takes, Reads};
+ghost use Rattle.shake_given.specs.Refusals.{IsOther};
 
 use crate::error::GivenError;
 use crate::key::Key;
@@ -53,7 +54,8 @@ impl Given {
     /// What flags give: of those with the same key the last one counts. Refuses the first key or value that isn't read or may
     /// not be given, and where memory is refused.
     pub fn read(alloc: Global, flags: &[Flag<'_>], mark: Mark) -> Result<Given, GivenError>
-        ensures { IfOk result (Reads (map flag_texts flags.now)) }
+        ensures reads { IfOk result (Reads (map flag_texts flags.now)) }
+        ensures other { IfErr result IsOther }
     {
         let mut given = Given::new(alloc);
         for flag in flags {
@@ -63,7 +65,8 @@ impl Given {
     }
 
     fn take(&mut self, alloc: Global, flag: Flag<'_>, mark: Mark) -> Result<(), GivenError>
-        ensures { OnOk result (Takes (flag_texts flag.entry) self.old self.new) }
+        ensures takes { OnOk result (Takes (flag_texts flag.entry) self.old self.new) }
+        ensures other { IfErr result IsOther }
     {
         match flag {
             Flag::Define { key, value } => self.define(alloc, key, value, mark),
@@ -84,7 +87,8 @@ impl Given {
         value: &str,
         mark: Mark,
     ) -> Result<(), GivenError>
-        ensures { OnOk result (Defines self.old self.new) }
+        ensures defines { OnOk result (Defines self.old self.new) }
+        ensures other { IfErr result IsOther }
     {
         let key = Key {
             module: None,
@@ -124,7 +128,8 @@ impl Given {
         value: &str,
         mark: Mark,
     ) -> Result<(), GivenError>
-        ensures { OnOk result (Exports source.now name.now self.old self.new) }
+        ensures exports { OnOk result (Exports source.now name.now self.old self.new) }
+        ensures other { IfErr result IsOther }
     {
         let key = Key {
             module: Some(source),

@@ -1,8 +1,9 @@
 //! Keys, and what is read for them.
-ghost use Rattle.std.specs.Prelude.{◌≡◌, true, IfOk};
+ghost use Rattle.std.specs.Prelude.{◌≡◌, true, IfOk, IfErr};
 ghost use Rattle.swc_ast.specs.Views.{expr_tree};
 ghost use Rattle.swc_given.specs.Givable.{IsGivable};
 ghost use Rattle.shake_given.specs.Reads.{is_chain};
+ghost use Rattle.shake_given.specs.Refusals.{IsOther};
 
 use crate::error::GivenError;
 use crate::fit::{is_chain, is_givable};
@@ -31,7 +32,9 @@ impl Key<'_> {
     }
 
     /// The refusal of a text that isn't read.
-    fn unreadable(self, alloc: Global, fault: ReadError) -> GivenError {
+    fn unreadable(self, alloc: Global, fault: ReadError) -> GivenError
+        ensures { IsOther result }
+    {
         if fault == ReadError::OutOfMemory {
             return GivenError::OutOfMemory;
         }
@@ -41,13 +44,19 @@ impl Key<'_> {
         }
     }
 
-    fn read(self, alloc: Global, text: &str, mark: Mark) -> Result<Expr, GivenError> {
-        read_value(alloc, text, mark).map_err(|fault| self.unreadable(alloc, fault))
+    fn read(self, alloc: Global, text: &str, mark: Mark) -> Result<Expr, GivenError>
+        ensures { IfErr result IsOther }
+    {
+        match read_value(alloc, text, mark) {
+            Ok(value) => Ok(value),
+            Err(fault) => Err(self.unreadable(alloc, fault)),
+        }
     }
 
     /// The value of a text. Refuses what is no expression, a value that may not stand everywhere, and where memory is refused.
     pub(crate) fn value(self, alloc: Global, text: &str, mark: Mark) -> Result<Expr, GivenError>
-        ensures { IfOk result (λ e. IsGivable (expr_tree e)) }
+        ensures givable { IfOk result (λ e. IsGivable (expr_tree e)) }
+        ensures other { IfErr result IsOther }
     {
         let value = self.read(alloc, text, mark)?;
         if is_givable(alloc, &value, mark)? {
@@ -61,7 +70,8 @@ impl Key<'_> {
 
     /// The key itself, as a name or a chain of members. Refuses anything else, and where memory is refused.
     pub(crate) fn chain(self, alloc: Global, mark: Mark) -> Result<Expr, GivenError>
-        ensures { IfOk result (λ e. is_chain (expr_tree e) ≡ true) }
+        ensures chain { IfOk result (λ e. is_chain (expr_tree e) ≡ true) }
+        ensures other { IfErr result IsOther }
     {
         let chain = self.read(alloc, self.name, mark)?;
         if is_chain(&chain) {

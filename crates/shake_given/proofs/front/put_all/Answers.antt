@@ -2,13 +2,20 @@ use Rattle.std.proofs.Common.{map, subst}
 use Rattle.swc_ast.specs.Modules.{module_tree}
 use Rattle.swc_expr_map.specs.Entries.{IsSorted}
 use Rattle.shake_options.specs.Flags.{flag_texts}
+use Rattle.shake_given.proofs.Deep.{names_within, names_nest}
 use Rattle.shake_given.proofs.Stay.{put_prepared, put_stays}
 use Rattle.shake_given.proofs.front.put_all.Goals as goal
 
 pub returns-clause-prepared : goal.returns-clause-prepared
-returns-clause-prepared c = put_prepared (map flag_texts c.args.flags.now) c.args.mark (module_tree c.args.module) (module_tree c.in_ok-constant.constant) c.in_ok-names.field-0 c.in_ok-names.ensures c.in_ok-constant.ensures c.put.result c.put.ensures
+returns-clause-prepared c = put_prepared (map flag_texts c.args.flags.now) c.args.mark (module_tree c.args.module) (module_tree c.in_ok-constant.constant) c.in_ok-names.field-0 c.in_ok-names.ensures.reads c.in_ok-constant.ensures.replaces c.put.result c.put.ensures.puts
 
 pub returns-clause-stays : goal.returns-clause-stays
 returns-clause-stays c =
-    put_stays (map flag_texts c.args.flags.now) c.args.mark (module_tree c.args.module) (module_tree c.in_ok-constant.constant) c.in_ok-names.field-0 c.in_ok-names.ensures c.in_ok-constant.ensures c.put.result c.put.ensures
+    put_stays (map flag_texts c.args.flags.now) c.args.mark (module_tree c.args.module) (module_tree c.in_ok-constant.constant) c.in_ok-names.field-0 c.in_ok-names.ensures.reads c.in_ok-constant.ensures.replaces c.put.result c.put.ensures.puts
     (subst IsSorted c.names-2.view_is c.names-2.invariant)
+
+pub returns-clause-within : goal.returns-clause-within
+returns-clause-within c = names_within (map flag_texts c.args.flags.now) c.args.mark c.args.most (module_tree c.args.module) (module_tree c.in_ok-constant.constant) c.in_ok-names.field-0 c.in_ok-names.ensures.reads c.in_ok-constant.ensures.replaces c.put.result c.put.ensures.within
+
+pub returns-clause-too_deep : goal.returns-clause-too_deep
+returns-clause-too_deep c = names_nest (map flag_texts c.args.flags.now) c.args.mark c.args.most (module_tree c.args.module) (module_tree c.in_ok-constant.constant) c.in_ok-names.field-0 c.in_ok-names.ensures.reads c.in_ok-constant.ensures.replaces c.put.result c.put.ensures.too_deep
