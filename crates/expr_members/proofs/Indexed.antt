@@ -1,6 +1,5 @@
 -- The items of an array round an index.
-use Rattle.std.proofs.Common.{◌≡◌, ℕ, zero, suc, ◌<◌, Bool, true, false, not, ◌&&◌, ◌||◌, if◌then◌else◌, List, [], ◌∷◌, length, take, drop, get_or, Option, Some, None, refl, sym, ap, ◌∙◌, arith}
-use Rattle.std.proofs.lemmas.Bool.{false≢true}
+use Rattle.std.proofs.Common.{◌≡◌, ℕ, zero, suc, ◌<◌, true, false, not, ◌&&◌, if◌then◌else◌, List, [], ◌∷◌, length, take, drop, get_or, Option, Some, None, refl, sym, ap, ◌∙◌, arith}
 use Rattle.swc_ast.specs.Operators.{if_some}
 use Rattle.swc_ast.specs.Tree.{Tree, ◌⊳◌}
 use Rattle.swc_ast.specs.Expressions.{spread_kind}
@@ -8,8 +7,8 @@ use Rattle.swc_ast.specs.Views.{expr_tree}
 use Rattle.swc_ast.specs.declared.Span.{Span}
 use Rattle.swc_utils.specs.Effects.{effects_all, preserve}
 use Rattle.swc_utils.specs.Pure.{has_spread, pure_all}
-use Rattle.expr_rules.specs.Members.{array_at, item_at, items_before, items_behind, length_of}
-use Rattle.expr_members.specs.Members.{has_hole, item_value}
+use Rattle.expr_rules.specs.Members.{array_at, item_at, items_before, items_behind}
+use Rattle.expr_members.specs.Members.{item_value}
 use Rattle.expr_members.proofs.Opened.{Item, kinds_of, trees_of}
 
 before_is : (xs : List Item) (i : ℕ) → items_before (kinds_of xs) (trees_of xs) i ≡ trees_of (take i xs)
@@ -62,12 +61,3 @@ item_is mark rs w xs i x within at plain clean =
     ∙ ap (λ b. if b then if_some (item_at w (kinds_of xs) (trees_of xs) i) put else None) (ap (pure_all mark) (behind_is xs i) ∙ clean)
     ∙ ap (λ o. if_some o put) (at_is w xs i x within at)
     ∙ ap (λ ts. Some (preserve rs (effects_all mark ts) (item_value w x))) (before_is xs i)
-
-right_false : (a b : Bool) → (a || b) ≡ false → b ≡ false
-right_false true b h = absurd (false≢true (sym h))
-right_false false b h = h
-
-pub full_length : (xs : List Item) → has_hole (kinds_of xs) ≡ false → length_of (trees_of xs) ≡ length xs
-full_length [] h = refl
-full_length (None ∷ xs) h = absurd (false≢true (sym h))
-full_length (Some n ∷ xs) h = ap suc (full_length xs (right_false _ (has_hole (kinds_of xs)) h))

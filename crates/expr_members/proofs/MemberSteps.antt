@@ -1,12 +1,12 @@
 -- What takes the place of a member of a literal.
 use Rattle.std.proofs.Common.{◌≡◌, ℕ, suc, ◌+◌, ◌-◌, ◌<◌, true, false, if◌then◌else◌, List, [], ◌∷◌, length, take, drop, length-drop, Option, Some, None, Result, Ok, Err, sym, ap, subst, ◌∙◌, arith}
 use Rattle.std.specs.Prelude.{IfOk, IfSome, MatchOption, chars, codes, slice_get}
-use Rattle.std.proofs.lemmas.List.{take_all}
+use Rattle.std.proofs.lemmas.List.{length-map, take_all}
 use Rattle.swc_ast.specs.Operators.{if_some, index_of, units}
 use Rattle.swc_ast.specs.Parts.{list_trees, word_text}
 use Rattle.swc_ast.specs.Tree.{Array, StrLit, Tree, node, ε}
 use Rattle.swc_ast.specs.Views.{expr_tree, prop_or_spread_tree}
-use Rattle.swc_ast.specs.Expressions.{member_node, object_tree}
+use Rattle.swc_ast.specs.Expressions.{item_kind, member_node, object_tree}
 use Rattle.swc_ast.proofs.Equations.{expr_tree-Object}
 use Rattle.swc_ast.specs.declared.expressions.Expr.TheVariants as in_expr
 use Rattle.swc_ast.specs.declared.expressions.ObjectLit.{ObjectLit}
@@ -19,9 +19,10 @@ use Rattle.swc_ast.specs.declared.expressions.Expr.{Expr}
 use Rattle.swc_ast.specs.declared.expressions.MemberProp.{MemberProp}
 use Rattle.swc_ast.specs.declared.expressions.MemberProp.TheVariants as prop
 use Rattle.swc_utils.specs.Pure.{has_spread, pure_all}
+use Rattle.swc_keys.specs.Keys.{are_keys, keys_of}
 use Rattle.expr_rules.specs.ExprSteps.{ExprStep, MemberOf, by_dot, by_key, text_length, text_character, array_length, array_item, object_value}
 use Rattle.expr_rules.specs.Leaves.{key_text_of, void_tree}
-use Rattle.expr_rules.specs.Members.{all_basic, array_at, character, length_of, text_at, value_named}
+use Rattle.expr_rules.specs.Members.{all_basic, array_at, character, text_at, value_named}
 use Rattle.expr_members.specs.Members.{StandsFor, IsKey, IsLength, IsCharacter, IsItem, character_at}
 use Rattle.expr_members.proofs.Opened.{Item, kinds_of, trees_of}
 use Rattle.expr_members.proofs.Indexed.{item_is}
@@ -59,9 +60,9 @@ character_stands mark s is t key i e index (u, at, char) = λ m of. subst (ExprS
 
 -- arrays
 
-pub array_length_stands : {P : Type 0} (mark : ℕ) (s : Span) (ss : List Span) (xs : List Item) (key : List ℕ) (r : Option Expr) → P → key ≡ codes "length" → has_spread (kinds_of xs) ≡ false → IfSome r (λ e. IsLength s (length_of (trees_of xs)) e) → IfSome r (λ e. pure_all mark (trees_of xs) ≡ true) → MatchOption r P (λ e. StandsFor mark (node (Array (kinds_of xs)) ss (trees_of xs)) key e)
+pub array_length_stands : {P : Type 0} (mark : ℕ) (s : Span) (ss : List Span) (xs : List Item) (key : List ℕ) (r : Option Expr) → P → key ≡ codes "length" → has_spread (kinds_of xs) ≡ false → IfSome r (λ e. IsLength s (length xs) e) → IfSome r (λ e. pure_all mark (trees_of xs) ≡ true) → MatchOption r P (λ e. StandsFor mark (node (Array (kinds_of xs)) ss (trees_of xs)) key e)
 array_length_stands mark s ss xs key None same named plain h clean = same
-array_length_stands mark s ss xs key (Some e) same named plain h clean = λ m of. subst (ExprStep mark m) (sym h.0) (array_length ss (s ∷ []) (kinds_of xs) (trees_of xs) (subst (MemberOf m (node (Array (kinds_of xs)) ss (trees_of xs))) named of) clean plain h.1)
+array_length_stands mark s ss xs key (Some e) same named plain h clean = let i : IsLength s (length (kinds_of xs)) e = subst (λ n. IsLength s n e) (sym (length-map xs item_kind)) h in λ m of. subst (ExprStep mark m) (sym i.0) (array_length ss (s ∷ []) (kinds_of xs) (trees_of xs) (subst (MemberOf m (node (Array (kinds_of xs)) ss (trees_of xs))) named of) clean plain i.1)
 
 -- what is behind an index, to the end
 pub behind_all : {X : Type 0} (ys : List X) (j : ℕ) → take (length ys - j) (drop j ys) ≡ drop j ys
@@ -78,9 +79,9 @@ item_stands mark s ss xs key i e index at = λ m of. array_item ss (s ∷ []) (s
 
 -- objects
 
-value_stands : (P : Type 0) (mark : ℕ) (key : List ℕ) (n : ObjectLit PropOrSpread) (o : Option Expr) → MatchOption o P (λ e. value_named mark key (list_trees prop_or_spread_tree n.props.items) ≡ Some (expr_tree e)) → MatchOption o P (λ e. StandsFor mark (object_tree prop_or_spread_tree n) key e)
-value_stands P mark key n None h = h
-value_stands P mark key n (Some e) h = λ m of. object_value (n.span ∷ []) (list_trees prop_or_spread_tree n.props.items) key (expr_tree e) of h
+value_stands : (P : Type 0) (mark : ℕ) (key : List ℕ) (n : ObjectLit PropOrSpread) (o : Option Expr) → are_keys (keys_of (list_trees prop_or_spread_tree n.props.items)) ≡ true → MatchOption o P (λ e. value_named mark key (list_trees prop_or_spread_tree n.props.items) ≡ Some (expr_tree e)) → MatchOption o P (λ e. StandsFor mark (object_tree prop_or_spread_tree n) key e)
+value_stands P mark key n None once h = h
+value_stands P mark key n (Some e) once h = λ m of. object_value (n.span ∷ []) (list_trees prop_or_spread_tree n.props.items) key (expr_tree e) of once h
 
 -- the object of a member, as it was or taken apart
 
@@ -88,8 +89,8 @@ pub arm : (mark : ℕ) (key : List ℕ) {N : Type 0} (put : N → Expr) (tree : 
 arm mark key put tree at m None is same after h = after ∙ ap put (h ∙ same) ∙ sym is
 arm mark key put tree at m (Some e) is same after h = subst (λ t. StandsFor mark t key e) (ap tree same ∙ sym (at _) ∙ sym (ap expr_tree is)) h
 
-pub object_arm : (mark : ℕ) (key : List ℕ) {old new : Expr} {n : ObjectLit PropOrSpread} (k m : ObjectLit PropOrSpread) (o : Option Expr) → old ≡ in_expr.Object n → k ≡ n → new ≡ in_expr.Object m → MatchOption o (m ≡ k) (λ e. value_named mark key (list_trees prop_or_spread_tree k.props.items) ≡ Some (expr_tree e)) → MatchOption o (new ≡ old) (λ e. StandsFor mark (expr_tree old) key e)
-object_arm mark key k m o is same after h = arm mark key in_expr.Object (object_tree prop_or_spread_tree) expr_tree-Object m o is same after (value_stands (m ≡ k) mark key k o h)
+pub object_arm : (mark : ℕ) (key : List ℕ) {old new : Expr} {n : ObjectLit PropOrSpread} (k m : ObjectLit PropOrSpread) (o : Option Expr) → old ≡ in_expr.Object n → k ≡ n → new ≡ in_expr.Object m → are_keys (keys_of (list_trees prop_or_spread_tree k.props.items)) ≡ true → MatchOption o (m ≡ k) (λ e. value_named mark key (list_trees prop_or_spread_tree k.props.items) ≡ Some (expr_tree e)) → MatchOption o (new ≡ old) (λ e. StandsFor mark (expr_tree old) key e)
+object_arm mark key k m o is same after once h = arm mark key in_expr.Object (object_tree prop_or_spread_tree) expr_tree-Object m o is same after (value_stands (m ≡ k) mark key k o once h)
 
 pub replaced : (mark : ℕ) (s : Span) (x y : Expr) (p : MemberProp Expr) (key : List ℕ) (o : Option Expr) → IsKey p key → MatchOption o (y ≡ x) (λ e. StandsFor mark (expr_tree x) key e) → Replaced mark (member_node expr_tree s x p) (member_node expr_tree s y p) o
 replaced mark s x y p key None named h = ap (λ z. member_node expr_tree s z p) h

@@ -1,9 +1,9 @@
 -- Members of literals.
-use Rattle.std.specs.Prelude.{◌≡◌, ℕ, Bool, true, false, ◌||◌, List, [], ◌∷◌, Option, Some, None, if◌then◌else◌, pos, chars, slice_get, slice_index_or, take}
+use Rattle.std.specs.Prelude.{◌≡◌, ℕ, true, List, [], ◌∷◌, Option, Some, None, if◌then◌else◌, pos, chars, slice_get, slice_index_or, take}
 use Rattle.swc_ast.specs.Core.{in_range}
 use Rattle.swc_ast.specs.Expressions.{item_trees, member_node}
 use Rattle.swc_ast.specs.Operators.{if_some}
-use Rattle.swc_ast.specs.Tree.{Hole, ItemKind, NumLit, Tree, node, ε}
+use Rattle.swc_ast.specs.Tree.{NumLit, Tree, node, ε}
 use Rattle.swc_ast.specs.Views.{expr_tree}
 use Rattle.swc_ast.specs.declared.Span.{Span}
 use Rattle.swc_ast.specs.declared.expressions.Expr.{Expr}
@@ -33,16 +33,6 @@ character_at t i = if all_basic (chars t) then if_some (slice_get (chars t) i) c
 -- the literal of it
 abbrev pub IsCharacter : Span → List ℕ → ℕ → Expr → Type 0
 IsCharacter s t i e = (u : List ℕ) × (expr_tree e ≡ text_tree (s ∷ []) u) × (character_at t i ≡ Some u)
-
--- a hole
-abbrev pub is_hole : ItemKind → Bool
-is_hole Hole = true
-is_hole _ = false
-
--- whether one of an array's items is a hole
-abbrev pub has_hole : List ItemKind → Bool
-has_hole [] = false
-has_hole (k ∷ ks) = is_hole k || has_hole ks
 
 -- the tree of an item; a hole's is what w says
 abbrev pub item_value : Tree → Option (ExprOrSpread Expr) → Tree

@@ -7,8 +7,8 @@ ghost use Rattle.swc_utils.specs.Effects.{effects_all, preserve};
 ghost use Rattle.swc_utils.specs.Globals.{unresolved};
 ghost use Rattle.swc_utils.specs.Pure.{has_spread as kinds_have_spread, pure_all};
 ghost use Rattle.expr_rules.specs.Leaves.{void_tree};
-ghost use Rattle.expr_rules.specs.Members.{array_at, length_of};
-ghost use Rattle.expr_members.specs.Members.{has_hole as kinds_have_hole, item_value as tree_item_value, IsItem, IsLength, StandsFor};
+ghost use Rattle.expr_rules.specs.Members.{array_at};
+ghost use Rattle.expr_members.specs.Members.{item_value as tree_item_value, IsItem, IsLength, StandsFor};
 
 use crate::arrays::{has_spread, push_items, void_zero};
 use crate::keys::{index_of, length_literal};
@@ -33,27 +33,12 @@ fn are_pure(ctx: &ExprCtx, items: &[Option<ExprOrSpread>]) -> bool
     true
 }
 
-/// Whether an item is a hole.
-fn has_hole(items: &[Option<ExprOrSpread>]) -> bool
-    ensures { result ≡ kinds_have_hole (map item_kind items.now) }
-{
-    let mut left = items;
-    while let [item, rest @ ..] = left {
-        if item.is_none() {
-            return true;
-        }
-        left = rest;
-    }
-    false
-}
-
-/// The literal of the length of items that are pure and no holes.
-#[tactic(auto, using(crate::proofs::Indexed::full_length))]
+/// The literal of the length of items that are pure; a hole counts as an item.
 fn array_length(ctx: &ExprCtx, span: Span, items: &[Option<ExprOrSpread>]) -> Option<Expr>
-    ensures length { IfSome result (λ e. IsLength span (length_of (item_trees expr_tree items.now)) e) }
+    ensures length { IfSome result (λ e. IsLength span (length items.now) e) }
     ensures pure { IfSome result (λ e. pure_all (unresolved ctx.now) (item_trees expr_tree items.now) ≡ true) }
 {
-    if has_hole(items) || !are_pure(ctx, items) {
+    if !are_pure(ctx, items) {
         return None;
     }
     length_literal(span, items.len())
@@ -123,8 +108,8 @@ fn array_item(
     Ok(Some(answer))
 }
 
-/// What takes the place of a member of an array literal without a spread: its length, where all its items are pure and
-/// none is a hole, or the item at an index inside it, where those behind are pure. None: the array is as it was.
+/// What takes the place of a member of an array literal without a spread: its length, where all its items are pure, a
+/// hole counted as one, or the item at an index inside it, where those behind are pure. None: the array is as it was.
 pub(crate) fn array_member(
     alloc: Global,
     ctx: &ExprCtx,

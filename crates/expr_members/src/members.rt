@@ -93,11 +93,10 @@ fn member_of(
 
 /// What takes the place of a member of a literal whose key is a word or a literal: a text's length, its character at an
 /// index inside it where no character of the text lies past the basic plane; of an array without a spread its length,
-/// where all its items are pure and none is a hole, and the item at an index inside it behind the effects of those in
-/// front, where those behind are pure; of an object of `key: value` without computed keys and `__proto__` the value of a
-/// key that one property has, for an index where the values of the others are pure, for another text but `yield` where
-/// all are literals. None: nothing folds, and the member is as it was; else its object was moved out. Fails where memory
-/// is refused.
+/// where all its items are pure, and the item at an index inside it behind the effects of those in front, where those
+/// behind are pure; of an object of `key: value` without computed keys, `__proto__` and repeated keys the value of a key,
+/// for an index where the values of the others are pure, for another text but `yield` where all are literals. None:
+/// nothing folds, and the member is as it was; else its object was moved out. Fails where memory is refused.
 pub fn fold_member(
     alloc: Global,
     ctx: &ExprCtx,

@@ -11,9 +11,9 @@ ghost use Rattle.expr_members.specs.Members.{StandsFor};
 ghost use Rattle.expr_members.specs.Objects.{has_key as tree_has_key, has_text as tree_has_text, is_object as tree_is_object, value_of as tree_value_of, IsPlace};
 
 use crate::keys::index_of;
-use crate::properties::has_proto;
 use std::alloc::{AllocError, Global};
 use swc_ast::{Expr, Invalid, ObjectLit, Prop, PropName, PropOrSpread, Span};
+use swc_keys::are_keys;
 use swc_utils::{ExprCtx, ExprExt, is_literal};
 
 /// Whether an expression is an object literal.
@@ -166,9 +166,9 @@ fn is_asked(alloc: Global, object: &Expr, key: &str) -> Result<bool, AllocError>
     }
 }
 
-/// What takes the place of a member of an object literal in which no key is `__proto__`: the value of its key's only
-/// property, where all are `key: value` without computed keys and the values of the others are pure; but for a text that
-/// is no index only where all are literals, and not for `yield`. None: the expression is as it was.
+/// What takes the place of a member of an object literal in which each key is there once and none is `__proto__`: the
+/// value of its key's property, where all are `key: value` without computed keys and the values of the others are pure;
+/// but for a text that is no index only where all are literals, and not for `yield`. None: the expression is as it was.
 pub(crate) fn object_member(
     alloc: Global,
     ctx: &ExprCtx,
@@ -182,7 +182,7 @@ pub(crate) fn object_member(
     }
     match object {
         Expr::Object(object) => {
-            if has_proto(&object.props) {
+            if !are_keys(alloc, &object.props)? {
                 return Ok(None);
             }
             let folded = object_value(alloc, ctx, object, key)?;

@@ -76,7 +76,7 @@ fn names_proto(prop: &PropOrSpread) -> bool
 
 /// Whether one of some properties has the key `__proto__`.
 #[tactic(auto, using(crate::proofs::Props::proto_cons))]
-pub(crate) fn has_proto(props: &[PropOrSpread]) -> bool
+fn has_proto(props: &[PropOrSpread]) -> bool
     ensures { result ≡ trees_have_proto (list_trees prop_or_spread_tree props.now) }
 {
     let mut left = props;

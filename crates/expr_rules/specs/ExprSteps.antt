@@ -21,7 +21,8 @@ use Rattle.expr_rules.specs.Equality.{is_equality, equal_known, tells}
 use Rattle.expr_rules.specs.Leaves.{text_tree, void_tree, guarded, key_text_of, number_tree, truth_tree, as_sequence}
 use Rattle.expr_rules.specs.Arithmetic.{admits, fold_texts, fold_sum, regroups, fold_numbers}
 use Rattle.expr_rules.specs.Choices.{chosen_arm, is_logical, chosen_side}
-use Rattle.expr_rules.specs.Members.{length_of, text_at, array_at, value_named}
+use Rattle.expr_rules.specs.Members.{text_at, array_at, value_named}
+use Rattle.swc_keys.specs.Keys.{are_keys, keys_of}
 use Rattle.expr_rules.specs.Comparisons.{compares, is_comparison, beside_itself, text_beside_itself}
 use Rattle.expr_rules.specs.Sequences.{front_folded, some_folds}
 use Rattle.expr_rules.specs.Spreads.{opened_kinds, opened_items, opened_properties, spreads_array, spreads_object}
@@ -63,11 +64,11 @@ pub data ExprStep (mark : ℕ) : Tree → Tree → Type 0 where
   -- spreads
   spread_array : (ss rs vs zs : List Span) (ks : List ItemKind) (ts : Forest) → spreads_array ks ts ≡ true → ExprStep mark (node (Array ks) ss ts) (node (Array (opened_kinds ks ts)) rs (opened_items (void_tree vs zs) ks ts))
   spread_object : (ss rs : List Span) (ts : Forest) → spreads_object ts ≡ true → ExprStep mark (node Object ss ts) (node Object rs (opened_properties ts))
-  -- members; a length is a number of the core
+  -- members; a length is a number of the core, and a hole counts as an item
   text_length : {m : Tree} (is rs : List Span) (t : List ℕ) → MemberOf m (node (StrLit t) is ε) (codes "length") → in_range (pos (length (units t))) ≡ true → ExprStep mark m (node (NumLit (pos (length (units t)))) rs ε)
   text_character : {m : Tree} (is rs : List Span) (t k u : List ℕ) → MemberOf m (node (StrLit t) is ε) k → text_at t k ≡ Some u → ExprStep mark m (text_tree rs u)
-  array_length : {m : Tree} (is rs : List Span) (ks : List ItemKind) (ts : Forest) → MemberOf m (node (Array ks) is ts) (codes "length") → pure_all mark ts ≡ true → has_spread ks ≡ false → in_range (pos (length_of ts)) ≡ true → ExprStep mark m (node (NumLit (pos (length_of ts))) rs ε)
+  array_length : {m : Tree} (is rs : List Span) (ks : List ItemKind) (ts : Forest) → MemberOf m (node (Array ks) is ts) (codes "length") → pure_all mark ts ≡ true → has_spread ks ≡ false → in_range (pos (length ks)) ≡ true → ExprStep mark m (node (NumLit (pos (length ks))) rs ε)
   array_item : {m : Tree} (is rs vs zs : List Span) (ks : List ItemKind) (ts : Forest) (k : List ℕ) (i : ℕ) (t : Tree) → MemberOf m (node (Array ks) is ts) k → index_of k ≡ Some i → array_at mark rs (void_tree vs zs) ks ts i ≡ Some t → ExprStep mark m t
-  object_value : {m : Tree} (is : List Span) (ts : Forest) (k : List ℕ) (t : Tree) → MemberOf m (node Object is ts) k → value_named mark k ts ≡ Some t → ExprStep mark m t
+  object_value : {m : Tree} (is : List Span) (ts : Forest) (k : List ℕ) (t : Tree) → MemberOf m (node Object is ts) k → are_keys (keys_of ts) ≡ true → value_named mark k ts ≡ Some t → ExprStep mark m t
   -- a place where the answer would mean something else
   in_guard : {t u : Tree} (rs zs : List Span) → ExprStep mark t u → weight (guarded rs zs u) < weight t → ExprStep mark t (guarded rs zs u)

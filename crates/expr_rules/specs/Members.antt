@@ -7,11 +7,6 @@ use Rattle.swc_ast.specs.declared.Span.{Span}
 use Rattle.swc_utils.specs.Effects.{effects_all, preserve}
 use Rattle.swc_utils.specs.Pure.{has_spread, pure, pure_all}
 
--- how many trees there are
-abbrev pub length_of : Forest → ℕ
-length_of ε = 0
-length_of (t ⊳ ts) = suc (length_of ts)
-
 -- characters that are one UTF-16 unit each
 abbrev pub all_basic : List ℕ → Bool
 all_basic [] = true

@@ -21,7 +21,6 @@ use Rattle.expr_rules.specs.Values.{value_by_type, value_of}
 use Rattle.expr_rules.specs.ExprSteps.{MemberOf, by_dot, by_key, ExprStep, not_known, plus_known, minus_known, tilde_known, void_pure, typeof_expression, typeof_constant, join_texts, add_numbers, compute_numbers, power_zero, regroup, compare_known, compare_texts, compare_name, compare_type, equality, instance, logical, choice, front, spread_array, spread_object, text_length, text_character, array_length, array_item, object_value, in_guard}
 use Rattle.expr_rules.specs.Leaves.{text_tree, void_tree, number_tree, truth_tree, as_sequence}
 use Rattle.expr_rules.specs.Comparisons.{is_comparison}
-use Rattle.expr_rules.specs.Members.{length_of}
 use Rattle.expr_rules.specs.Sequences.{front_folded}
 use Rattle.expr_rules.specs.Equality.{tells}
 use Rattle.expr_steps.proofs.Compare.{compare_exact}
@@ -116,7 +115,7 @@ step_exact {mark} (text_length is rs t m z) = member_is m (λ ss. text_length_ex
 step_exact {mark} (text_character is rs t k u m h) = member_is m (λ ss. text_at_exact mark ss is rs t k u h)
 step_exact {mark} (array_length is rs ks ts m p s z) = member_is m (λ ss. length_exact mark ks ss is rs ts p s)
 step_exact {mark} (array_item is rs vs zs ks ts k i t m e h) = member_is m (λ ss. array_at_exact mark (void_tree vs zs) ks ts ss is rs k i t e h)
-step_exact {mark} (object_value is ts k t m h) = member_is m (λ ss. value_named_exact mark ss is ts k t h)
+step_exact {mark} (object_value is ts k t m u h) = member_is m (λ ss. value_named_exact mark ss is ts k t h)
 step_exact {mark} (in_guard {t} {u} rs zs s l) = exact_trans mark (step_exact s) (guarded_exact mark rs zs u)
 
 -- lengths
@@ -158,7 +157,7 @@ step_lighter {mark} (spread_array ss rs vs zs ks ts h) = spread_array_lighter (v
 step_lighter {mark} (spread_object ss rs ts h) = spread_object_lighter ss rs ts h
 step_lighter {mark} (text_length is rs t m z) = member_weighs (number_tree mark rs (Whole (pos (length (units t))))) m (λ ss. literal_member_lighter (codes "length") ss (node (StrLit t) is ε) (number_tree mark rs (Whole (pos (length (units t))))) (text_weighs is t) (number_light mark rs (Whole (pos (length (units t))))))
 step_lighter {mark} (text_character is rs t k u m h) = member_weighs (text_tree rs u) m (λ ss. text_at_lighter k t u ss is rs)
-step_lighter {mark} (array_length is rs ks ts m p s z) = member_weighs (number_tree mark rs (Whole (pos (length_of ts)))) m (λ ss. literal_member_lighter (codes "length") ss (node (Array ks) is ts) (number_tree mark rs (Whole (pos (length_of ts)))) (array_weighs is ks ts) (number_light mark rs (Whole (pos (length_of ts)))))
+step_lighter {mark} (array_length is rs ks ts m p s z) = member_weighs (number_tree mark rs (Whole (pos (length ks)))) m (λ ss. literal_member_lighter (codes "length") ss (node (Array ks) is ts) (number_tree mark rs (Whole (pos (length ks)))) (array_weighs is ks ts) (number_light mark rs (Whole (pos (length ks)))))
 step_lighter {mark} (array_item is rs vs zs ks ts k i t m e h) = member_weighs _ m (λ ss. let r = array_at_roomy mark (void_tree vs zs) ks ts ss is rs k i t (void_light vs zs) h in omega (arith, r))
-step_lighter {mark} (object_value is ts k t m h) = member_weighs _ m (λ ss. let r = value_named_roomy mark k ss is ts t h in omega (arith, r))
+step_lighter {mark} (object_value is ts k t m u h) = member_weighs _ m (λ ss. let r = value_named_roomy mark k ss is ts t h in omega (arith, r))
 step_lighter {mark} (in_guard {t} {u} rs zs s l) = l

@@ -64,7 +64,7 @@ step_rewritten (text_length is rs t m z) = member_rewritten m
 step_rewritten (text_character is rs t k u m h) = member_rewritten m
 step_rewritten (array_length is rs ks ts m p s z) = member_rewritten m
 step_rewritten (array_item is rs vs zs ks ts k i t m e h) = member_rewritten m
-step_rewritten (object_value is ts k t m h) = member_rewritten m
+step_rewritten (object_value is ts k t m u h) = member_rewritten m
 step_rewritten (in_guard rs zs s l) = step_rewritten s
 
 rewritten_expression : (l : Label) → is_rewritten l ≡ true → is_expression l ≡ true

@@ -220,7 +220,7 @@ step_roomy {mark} (text_length is rs t m i) n z = absurd (false≢true n)
 step_roomy {mark} (text_character is rs t k u m h) n z = absurd (false≢true n)
 step_roomy {mark} (array_length is rs ks ts m p s i) n z = absurd (false≢true n)
 step_roomy {mark} (array_item is rs vs zs ks ts k i t m e h) n z = member_roomy _ m (λ ss. array_at_roomy mark (void_tree vs zs) ks ts ss is rs k i t (void_light vs zs) h)
-step_roomy {mark} (object_value is ts k t m h) n z = member_roomy _ m (λ ss. value_named_roomy mark k ss is ts t h)
+step_roomy {mark} (object_value is ts k t m u h) n z = member_roomy _ m (λ ss. value_named_roomy mark k ss is ts t h)
 step_roomy {mark} (in_guard rs zs s l) n z = absurd (false≢true n)
 
 pub guarded_lighter : {mark : ℕ} {t u : Tree} → ExprStep mark t u → is_named u ≡ true → is_guarded t ≡ false → (rs zs : List Span) → weight (guarded rs zs u) < weight t

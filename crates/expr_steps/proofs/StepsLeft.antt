@@ -190,5 +190,5 @@ module _ {V F : Type 0} where
   step_left {mark} v f (text_character is rs t k u m h) = member_left _ m (λ rest r. goes _ (text_made rs u r))
   step_left {mark} v f (array_length is rs ks ts m p s z) = member_left _ m (λ rest r. goes _ (whole_made rs _ (λ i. z) r))
   step_left {mark} v f (array_item is rs vs zs ks ts k i t m e h) = member_left t m (item_of_array_left mark is rs vs zs ks ts i t (λ i. valid_below (Array ks) is ts (member_valid m (v i))) h)
-  step_left {mark} v f (object_value is ts k t m h) = member_left t m (λ rest r. opened Object is ts refl (named_left mark k ts t h r))
+  step_left {mark} v f (object_value is ts k t m u h) = member_left t m (λ rest r. opened Object is ts refl (named_left mark k ts t h r))
   step_left {mark} v f (in_guard {t} {u} rs zs s l) = two_made rs _ u (zero_made zs (step_left v f s))

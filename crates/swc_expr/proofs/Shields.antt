@@ -47,7 +47,7 @@ zero_front mark p ss z b u h (text_length is rs t m d) e = elim m [ ]
 zero_front mark p ss z b u h (text_character is rs t k v m d) e = elim m [ ]
 zero_front mark p ss z b u h (array_length is rs ks ts m d i j) e = elim m [ ]
 zero_front mark p ss z b u h (array_item is rs vs zs ks ts k i t m d j) e = elim m [ ]
-zero_front mark p ss z b u h (object_value is ts k t m d) e = elim m [ ]
+zero_front mark p ss z b u h (object_value is ts k t m q d) e = elim m [ ]
 zero_front mark p ss z b u h (in_guard rs zs s w) e = absurd (true≢false (sym (sequence_alone p rs _) ∙ e))
 zero_front mark p ss z b u h s e = absurd (false≢true h)
 

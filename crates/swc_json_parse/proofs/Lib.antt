@@ -7,6 +7,5 @@ pub mod Nodes
 pub mod Pieces
 pub mod QuickSame
 pub mod ReadBack
-pub mod Seen
 pub mod Settled
 pub mod Within

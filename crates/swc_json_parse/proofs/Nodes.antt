@@ -38,18 +38,9 @@ use Rattle.swc_ast.specs.declared.expressions.Tpl.{Tpl}
 use Rattle.swc_ast.specs.declared.expressions.TplElement.{TplElement}
 use Rattle.swc_ast.specs.declared.literals.Lit.{Lit}
 use Rattle.swc_ast.specs.declared.literals.Lit.TheVariants as lit
-use Rattle.swc_json_parse.specs.JsonText.{data_of, key_of, whole}
-use Rattle.swc_json_parse.specs.Written.{text_within, member_within, plain_key, lit_text, number_text}
-
--- a member's key
-pub key_of_member : (n : KeyValueProp Expr) → key_of (key_value_tree expr_tree n) ≡ plain_key n.key
-key_of_member n = by_key n.key
-  where
-    by_key : (k : PropName Expr) → key_of (key_value_tree expr_tree (record n { key = k })) ≡ plain_key k
-    by_key (key.Ident i) = refl
-    by_key (key.Str i) = refl
-    by_key (key.Num i) = refl
-    by_key (key.Computed i) = refl
+use Rattle.swc_keys.specs.Keys.{plain_key}
+use Rattle.swc_json_parse.specs.JsonText.{data_of, whole}
+use Rattle.swc_json_parse.specs.Written.{text_within, member_within, lit_text, number_text}
 
 -- a member by its key
 pub member_keyed : (levels : ℕ) (n : KeyValueProp Expr) → member_within levels (key_value_tree expr_tree n) ≡ option_and_then (λ k. option_map (λ x. quoted k ++ 58 ∷ x) (text_within levels (expr_tree n.value.value))) (plain_key n.key)

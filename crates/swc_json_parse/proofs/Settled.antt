@@ -16,7 +16,8 @@ use Rattle.swc_put.specs.Still.{still}
 use Rattle.swc_put.specs.declared.rules.Spot.{Spot}
 use Rattle.swc_put.specs.declared.rules.Spot.TheVariants as spot
 use Rattle.swc_put.proofs.Putting.{label, asked}
-use Rattle.swc_json_parse.specs.JsonText.{data_of, items_of, members_of, all_plain, are_keys, keys_of, shallow, json_text}
+use Rattle.swc_keys.specs.Keys.{are_keys, keys_of}
+use Rattle.swc_json_parse.specs.JsonText.{data_of, items_of, members_of, all_plain, shallow, json_text}
 use Rattle.swc_json_parse.specs.Parsing.{literal_span, call_for, is_long, parse_call, parsing}
 
 -- two parts that there are, and what they make

@@ -1,8 +1,8 @@
 -- The text of a JSON literal, and the value that it is.
-use Rattle.std.specs.Prelude.{ℕ, ℤ, pos, negsuc, suc, ◌^◌, ◌≡◌, nat_le, nat_lt, Bool, true, false, not, ◌&&◌, if◌then◌else◌, List, [], ◌∷◌, ◌++◌, Option, Some, None, option_map, option_and_then, option_to_list, codes}
+use Rattle.std.specs.Prelude.{ℕ, ℤ, pos, negsuc, suc, ◌^◌, ◌≡◌, nat_le, nat_lt, Bool, true, false, if◌then◌else◌, List, [], ◌∷◌, Option, Some, None, option_map, option_and_then}
 use Rattle.swc_ast.specs.Meaning.{key_name}
-use Rattle.swc_ast.specs.Operators.{is_among}
 use Rattle.swc_ast.specs.Tree.{Text, NumLit, StrLit, BoolLit, NullLit, Template, ItemKind, Plain, Array, Object, KeyValue, PlainKey, Tree, node, Forest, ε, ◌⊳◌}
+use Rattle.swc_keys.specs.Keys.{are_keys, keys_of}
 use Rattle.serde_json.specs.Data.{Num, unsigned, negative, Data, null, boolean, number, string, array, object, Items, no_items, item, Members, no_members, member, put, depth}
 use Rattle.serde_json.specs.Read.{read, max_depth}
 use Rattle.serde_json.specs.Written.{compact_text}
@@ -16,24 +16,6 @@ abbrev pub all_plain : List ItemKind → Bool
 all_plain [] = true
 all_plain (Plain ∷ ks) = all_plain ks
 all_plain (k ∷ ks) = false
-
--- the text of the key of a property that is `key: value`, unless the key is computed
-abbrev pub key_of : Tree → Option Text
-key_of (node KeyValue ss (node (PlainKey k) rs ε ⊳ v ⊳ ε)) = Some (key_name k)
-key_of t = None
-
-abbrev pub keys_of : Forest → List Text
-keys_of ε = []
-keys_of (t ⊳ ts) = option_to_list (key_of t) ++ keys_of ts
-
--- whether each key is new, behind some that were seen
-abbrev pub all_new : List Text → List Text → Bool
-all_new seen [] = true
-all_new seen (k ∷ ks) = not (is_among k seen) && all_new (k ∷ seen) ks
-
--- each key is there once, and none of them is `__proto__`
-abbrev pub are_keys : List Text → Bool
-are_keys = all_new (codes "__proto__" ∷ [])
 
 -- The data of a JSON literal, its members in the literal's order. There is none where it has a hole, a spread, a computed or
 -- repeated key, `__proto__`, a method or a name alone, or anything that is no JSON literal.

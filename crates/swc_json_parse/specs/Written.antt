@@ -1,12 +1,8 @@
 -- What is known while a text is written, for private clauses.
-use Rattle.std.specs.Prelude.{ℕ, ℤ, ◌+◌, ◌^◌, ◌≡◌, nat_le, nat_lt, Bool, true, false, ◌&&◌, ◌||◌, if◌then◌else◌, List, [], ◌∷◌, ◌++◌, length, map, bytes_eq, string_bytes, Option, Some, None, option_map, option_and_then}
-use Rattle.std.specs.Fmt.{signed_decimal}
-use Rattle.std.specs.List.{list_any}
+use Rattle.std.specs.Prelude.{ℕ, ℤ, ◌+◌, ◌^◌, ◌≡◌, nat_le, nat_lt, Bool, true, false, ◌&&◌, if◌then◌else◌, List, [], ◌∷◌, ◌++◌, map, Option, Some, None, option_map, option_and_then}
 use Rattle.json.specs.Print.{quoted}
 use Rattle.swc_ast.specs.Meaning.{key_name}
-use Rattle.swc_ast.specs.Parts.{lit_tree, word_text}
-use Rattle.swc_ast.specs.declared.expressions.PropName.{PropName}
-use Rattle.swc_ast.specs.declared.expressions.PropName.TheVariants as key
+use Rattle.swc_ast.specs.Parts.{lit_tree}
 use Rattle.swc_ast.specs.declared.literals.Lit.{Lit}
 use Rattle.swc_ast.specs.declared.expressions.Expr.{Expr}
 use Rattle.swc_ast.specs.declared.expressions.ExprOrSpread.{ExprOrSpread}
@@ -16,7 +12,6 @@ use Rattle.swc_ast.specs.Views.{expr_tree}
 use Rattle.serde_json.specs.Data.{Data, number, Items, Members, depth, items_depth, members_depth}
 use Rattle.serde_json.specs.Written.{compact_text, items_text, members_text}
 use Rattle.swc_json_parse.specs.JsonText.{whole, data_of, items_of, members_of, all_plain}
-use Rattle.swc_json_parse.specs.declared.keys.KeySet.{KeySet}
 
 -- the text of a JSON literal that nests no deeper than a number of levels
 abbrev pub text_within : ℕ → Tree → Option Text
@@ -45,18 +40,7 @@ number_text z = option_map compact_text (option_map number (whole z))
 abbrev pub lit_text : Lit → Option Text
 lit_text n = option_map compact_text (data_of (lit_tree n))
 
--- the text of a key that is not computed
-abbrev pub plain_key : PropName Expr → Option Text
-plain_key (key.Ident n) = Some (word_text n)
-plain_key (key.Str n) = Some (string_bytes n.value)
-plain_key (key.Num n) = Some (signed_decimal n.value)
-plain_key (key.Computed n) = None
-
 -- what was taken of a text, and whether there is one
 abbrev pub Wrote : {O : Type 0} → (O → Text → O → Type 0) → Option Text → O → Bool → O → Type 0
 Wrote takes (Some x) old wrote new = (wrote ≡ true) × takes old x new
 Wrote takes None old wrote new = wrote ≡ false
-
--- whether a key is in a set
-abbrev pub has_key : KeySet → Text → Bool
-has_key s t = list_any (λ k. bytes_eq t (string_bytes k)) s.keys.keys

@@ -4,7 +4,6 @@
 ghost use Rattle.swc_json_parse.specs.JsonText.{TextsReadBack};
 
 mod call;
-mod keys;
 mod pass;
 mod sink;
 mod text;

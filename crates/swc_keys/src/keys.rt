@@ -3,8 +3,8 @@ ghost use Rattle.std.specs.Prelude.{◌≡◌, ◌||◌, not, false, IfOk, IsTru
 ghost use Rattle.swc_ast.specs.Parts.{list_trees};
 ghost use Rattle.swc_ast.specs.Tree.{Text};
 ghost use Rattle.swc_ast.specs.Views.{prop_or_spread_tree};
-ghost use Rattle.swc_json_parse.specs.JsonText.{are_keys as tree_are_keys, key_of as tree_key_of, keys_of};
-ghost use Rattle.swc_json_parse.specs.Written.{has_key, plain_key};
+ghost use Rattle.swc_keys.specs.Keys.{are_keys as tree_are_keys, key_of as tree_key_of, keys_of, plain_key};
+ghost use Rattle.swc_keys.specs.Sets.{has_key};
 
 use std::alloc::{AllocError, Global};
 use std::collections::HashSet;
@@ -47,7 +47,7 @@ fn key_text(alloc: Global, key: &PropName) -> Result<Option<String>, AllocError>
 }
 
 /// The text of the key of a property that is `key: value`, unless the key is computed. Fails where memory is refused.
-#[tactic(auto, using(swc_ast::proofs::Equations::forms, crate::proofs::Nodes::key_of_member))]
+#[tactic(auto, using(swc_ast::proofs::Equations::forms, crate::proofs::Members::key_of_member))]
 fn key_of(alloc: Global, prop: &PropOrSpread) -> Result<Option<String>, AllocError>
     ensures { IfOk result (λ o. option_map string_bytes o ≡ tree_key_of (prop_or_spread_tree prop.now)) }
 {
@@ -62,7 +62,7 @@ fn key_of(alloc: Global, prop: &PropOrSpread) -> Result<Option<String>, AllocErr
 }
 
 /// Whether each key of some properties is there once, and none of them is `__proto__`. Fails where memory is refused.
-pub(crate) fn are_keys(alloc: Global, props: &[PropOrSpread]) -> Result<bool, AllocError>
+pub fn are_keys(alloc: Global, props: &[PropOrSpread]) -> Result<bool, AllocError>
     ensures { IfOk result (λ b. b ≡ tree_are_keys (keys_of (list_trees prop_or_spread_tree props.now))) }
 {
     let mut seen = KeySet::new(alloc);

@@ -1,7 +1,7 @@
 use Rattle.std.proofs.Common.{refl, sym, ap, codes, [], ◌∷◌, ◌∙◌, string_bytes, option_map}
-use Rattle.swc_json_parse.proofs.Seen.{first_key, without_key, new_key, old_key}
-use Rattle.swc_json_parse.proofs.keys.are_keys.Goals as goal
-use Rattle.swc_json_parse.proofs.keys.are_keys.Goals.{in-Some+in_ok-insert-2+else-not-branch, in_default}
+use Rattle.swc_keys.proofs.Seen.{first_key, without_key, new_key, old_key}
+use Rattle.swc_keys.proofs.keys.are_keys.Goals as goal
+use Rattle.swc_keys.proofs.keys.are_keys.Goals.{in-Some+in_ok-insert-2+else-not-branch, in_default}
 
 pub loop-prop-init : goal.loop-prop-init
 loop-prop-init c = record {

@@ -13,9 +13,9 @@ use Rattle.swc_ast.specs.Parts.{list_trees}
 use Rattle.swc_ast.specs.Tree.{Text}
 use Rattle.swc_ast.specs.Views.{prop_or_spread_tree}
 use Rattle.swc_ast.specs.declared.expressions.PropOrSpread.{PropOrSpread}
-use Rattle.swc_json_parse.specs.JsonText.{all_new, are_keys, key_of, keys_of}
-use Rattle.swc_json_parse.specs.Written.{has_key}
-use Rattle.swc_json_parse.specs.declared.keys.KeySet.{KeySet}
+use Rattle.swc_keys.specs.Keys.{all_new, are_keys, key_of, keys_of}
+use Rattle.swc_keys.specs.Sets.{has_key}
+use Rattle.swc_keys.specs.declared.keys.KeySet.{KeySet}
 
 -- a set that has one key more
 pub one_more : (b : Bool) (k : String Global) (ks ns : List (String Global)) (P : Type 0) → MatchBool b (IsPermutation (k ∷ ks) ns) P → IsTrue b → (t : Text) → list_any (λ j. bytes_eq t (string_bytes j)) ns ≡ (bytes_eq t (string_bytes k) || list_any (λ j. bytes_eq t (string_bytes j)) ks)
