@@ -1,7 +1,6 @@
 -- What is known holds of the module that is walked.
 use Rattle.std.proofs.Common.{◌≡◌, Bool, true, false, not, ◌&&◌, ◌||◌, refl, sym, ap, subst, ◌∙◌}
 use Rattle.std.proofs.lemmas.Bool.{false≢true}
-use Rattle.std.specs.Prelude.{map, string_bytes}
 use Rattle.swc_ast.specs.Meaning.{is_unresolved}
 use Rattle.swc_ast.specs.Reach.{named_outside}
 use Rattle.swc_ast.specs.Run.{has_text}
@@ -26,15 +25,15 @@ among_all false true c h = refl
 among_all false false c h = absurd (false≢true h)
 
 -- what may go by what is told
-free_told : (k : Known) (t : Tree) → Tells k.uses.now t → (x : Name) → (may_go k x && is_free k.uses.now x) ≡ free_to_go (map string_bytes k.retained.now) t x
-free_told k t told x = ap (λ b. may_go k x && b) (told.free x) ∙ neither (has_text x.text (map string_bytes k.retained.now)) (named_outside x t || is_used_unnamed x t)
+free_told : (k : Known) (t : Tree) → Tells k.uses.now t → (x : Name) → (may_go k x && is_free k.uses.now x) ≡ free_to_go k.retained t x
+free_told k t told x = ap (λ b. may_go k x && b) (told.free x) ∙ neither (has_text x.text k.retained) (named_outside x t || is_used_unnamed x t)
 
 -- the names that go are free to
-pub free_is : (k : Known) (t : Tree) → Tells k.uses.now t → (x : Name) → (shaker k).free x ≡ true → free_to_go (map string_bytes k.retained.now) t x ≡ true
-free_is k t told x h = sym (free_told k t told x) ∙ among_all (has_text x.text (map string_bytes k.retained.now)) (is_free k.uses.now x) (is_inner k x) h
+pub free_is : (k : Known) (t : Tree) → Tells k.uses.now t → (x : Name) → (shaker k).free x ≡ true → free_to_go k.retained t x ≡ true
+free_is k t told x h = sym (free_told k t told x) ∙ among_all (has_text x.text k.retained) (is_free k.uses.now x) (is_inner k x) h
 
 -- of the top level too, all that are free to go do
-pub all_go : (k : Known) (t : Tree) → Tells k.uses.now t → k.top_level ≡ true → (x : Name) → (shaker k).free x ≡ free_to_go (map string_bytes k.retained.now) t x
+pub all_go : (k : Known) (t : Tree) → Tells k.uses.now t → k.top_level ≡ true → (x : Name) → (shaker k).free x ≡ free_to_go k.retained t x
 all_go k t told top x =
     ap (λ b. may_go k x && (is_free k.uses.now x && (b || not (is_held k.uses.now x)))) top ∙ ap (λ b. may_go k x && b) (sym (both (is_free k.uses.now x))) ∙ free_told k t told x
 
@@ -51,9 +50,9 @@ bound_by false true true i h = absurd (false≢true h)
 bound_by false true false i h = refl
 
 -- names whose assignments go are declared and never read
-pub unread_is : (k : Known) (t : Tree) → Tells k.uses.now t → (x : Name) → (shaker k).unread x ≡ true → is_unread (map string_bytes k.retained.now) t x ≡ true
+pub unread_is : (k : Known) (t : Tree) → Tells k.uses.now t → (x : Name) → (shaker k).unread x ≡ true → is_unread k.retained t x ≡ true
 unread_is k t told x h =
-    let a = has_text x.text (map string_bytes k.retained.now) in
+    let a = has_text x.text k.retained in
     let u = is_unresolved (unresolved k.ctx) x in
     unread_by a (declared_in x t) (read_in x t || is_used_unnamed x t) u (is_inward k x) (subst (λ b. (not a && (b && (not u && is_inward k x))) ≡ true) (told.unread x) h)
 

@@ -1,5 +1,5 @@
 -- What the rules take for known.
-use Rattle.std.specs.Prelude.{Bool, not, ◌&&◌, ◌||◌, map, string_bytes}
+use Rattle.std.specs.Prelude.{Bool, not, ◌&&◌, ◌||◌}
 use Rattle.swc_ast.specs.Meaning.{is_unresolved}
 use Rattle.swc_ast.specs.Run.{has_text}
 use Rattle.swc_ast.specs.Tree.{Name}
@@ -10,7 +10,7 @@ use Rattle.dce_code.specs.declared.known.Known.{Known}
 
 -- names whose texts aren't retained
 abbrev pub may_go : Known → Name → Bool
-may_go k x = not (has_text x.text (map string_bytes k.retained.now))
+may_go k x = not (has_text x.text k.retained)
 
 -- names declared below the top level, or all of them
 abbrev pub is_inner : Known → Name → Bool

@@ -1,42 +1,27 @@
 //! What is known of the module that is walked.
-ghost use Rattle.std.specs.Prelude.{◌≡◌, map, string_bytes};
+ghost use Rattle.std.specs.Prelude.{◌≡◌};
 ghost use Rattle.swc_ast.specs.Meaning.{is_unresolved};
 ghost use Rattle.swc_ast.specs.Parts.{ident_name};
-ghost use Rattle.swc_ast.specs.Run.{has_text};
 ghost use Rattle.swc_utils.specs.Globals.{unresolved};
 ghost use Rattle.dce_code.specs.Knowledge.{is_inner, is_inward, may_go, shaker};
 
-use dce_uses::Uses;
+use dce_uses::{Retained, Uses};
 use swc_ast::{Ident, SyntaxContext};
 use swc_utils::ExprCtx;
 
 /// What is known of the module or the script that is walked.
-#[derive(Clone, Copy, Drop)]
+#[derive(Drop)]
 pub struct Known<'a> {
     /// How it uses its names.
     pub uses: &'a Uses,
     /// The texts of names that stay.
-    pub retained: &'a [String],
+    pub retained: Retained<'a>,
     /// Which names are unresolved.
     pub ctx: ExprCtx,
     /// Whether names of the top level go too.
     pub top_level: bool,
     /// Whether an import goes of which no specifier is left.
     pub drops_imports: bool,
-}
-
-/// Whether a text is among some.
-fn is_among(texts: &[String], text: &str) -> bool
-    ensures { result ≡ has_text text.now (map string_bytes texts.now) }
-{
-    let mut left = texts;
-    while let [first, rest @ ..] = left {
-        if text == first.as_str() {
-            return true;
-        }
-        left = rest;
-    }
-    false
 }
 
 /// Whether a name is unresolved.
@@ -47,11 +32,11 @@ fn is_unresolved(ctx: ExprCtx, name: &Ident) -> bool
 }
 
 impl<'a> Known<'a> {
-    /// Whether a name may go: its text isn't retained. All retained texts are looked at, so it is asked last.
+    /// Whether a name may go: its text isn't retained.
     fn may_go(&self, name: &Ident) -> bool
         ensures { result ≡ may_go self.now (ident_name name.now) }
     {
-        !is_among(self.retained, &name.sym)
+        !self.retained.has(&name.sym)
     }
 
     /// Whether a name is declared below the top level, where names of the top level stay.

@@ -1,5 +1,5 @@
 -- What is gathered of an item describes it.
-use Rattle.std.proofs.Common.{ℕ, ◌≡◌, ◌⊎◌, inl, inr, Bool, true, false, not, ◌||◌, List, [], ◌∷◌, ◌++◌, map, string_bytes, refl, sym, ap, subst, ◌∙◌, append_assoc}
+use Rattle.std.proofs.Common.{ℕ, ◌≡◌, ◌⊎◌, inl, inr, Bool, true, false, not, ◌||◌, List, [], ◌∷◌, ◌++◌, refl, sym, ap, subst, ◌∙◌, append_assoc}
 use Rattle.std.proofs.lemmas.List.{append-nil}
 use Rattle.swc_ast.specs.Run.{has_text}
 use Rattle.swc_ast.specs.Scope.{has_name}
@@ -21,7 +21,7 @@ use Rattle.dce_items.proofs.Noting.{kept_number, free_number}
 -- what is said of an item's label and children is said of the item
 pub record Found (mark : ℕ) (k : Known) (l : Label) (cs : Forest) (i : Item) : Type 0 where
   pub solid : is_void l cs ≡ false
-  pub name : GoesBy (map string_bytes k.retained.now) k.names.now (goes_with mark l cs) i.name
+  pub name : GoesBy k.retained.now k.names.now (goes_with mark l cs) i.name
   pub goers : Gathers k [] i.goers.items true (tight_inside l cs) (inner_goers mark l cs)
   pub notes : (n : ℕ) → among i.notes.items n ≡ (among [] n || keeps_number k (own_mention l ++ mentions_among cs) n)
 
@@ -29,7 +29,7 @@ pub record Found (mark : ℕ) (k : Known) (l : Label) (cs : Forest) (i : Item) :
 free_not : (k : Known) (t : Tree) → Tells k.uses.now (node Module [] (t ⊳ ε)) → (x : Name) → notes x t ≡ not (is_free k.uses.now x)
 free_not k t u x = ap not (sym (u.free x))
 
-settled : (k : Known) (t : Tree) (ns : List ℕ) (x : Name) → Tells k.uses.now (node Module [] (t ⊳ ε)) → Settled k ns x → (notes x t ≡ true) ⊎ ((has_text x.text (map string_bytes k.retained.now) ≡ true) ⊎ IsAmong k.names.now ns x)
+settled : (k : Known) (t : Tree) (ns : List ℕ) (x : Name) → Tells k.uses.now (node Module [] (t ⊳ ε)) → Settled k ns x → (notes x t ≡ true) ⊎ ((has_text x.text k.retained.now ≡ true) ⊎ IsAmong k.names.now ns x)
 settled k t ns x u (inl h) = inl (free_not k t u x ∙ ap not h)
 settled k t ns x u (inr h) = inr h
 
@@ -45,7 +45,7 @@ noted k l cs t x n is u p = by (is_free k.uses.now x) refl
         let h : notes x t ≡ true = free_not k t u x ∙ ap not e in
         kept_number k x n (own_mention l ++ mentions_among cs) e p.number (sym (ap (has_name x) is) ∙ noted_stands x t p.named h) ∙ sym h
 
-described : (mark : ℕ) (k : Known) (t : Tree) (l : Label) (cs : Forest) (i : Item) → label_of t ≡ l → children_of t ≡ cs → Tells k.uses.now (node Module [] (t ⊳ ε)) → Found mark k l cs i → Describes mark (map string_bytes k.retained.now) k.names.now t i
+described : (mark : ℕ) (k : Known) (t : Tree) (l : Label) (cs : Forest) (i : Item) → label_of t ≡ l → children_of t ≡ cs → Tells k.uses.now (node Module [] (t ⊳ ε)) → Found mark k l cs i → Describes mark k.retained.now k.names.now t i
 described mark k (node m ss ds) l cs i labelled held u p =
     let t = node m ss ds in
     let q : Found mark k m ds i = subst (λ (j : Label). Found mark k j ds i) (sym labelled) (subst (λ (es : Forest). Found mark k l es i) (sym held) p) in record {
@@ -61,13 +61,13 @@ gathered : (mark : ℕ) (k : Known) (l : Label) (cs : Forest) (p : Parts) (new :
 gathered mark k l cs p new d g = record { grows = g.grows; tight = λ e. d.tight (g.tight e); settled = λ e x h. g.settled e x (sym (ap (has_name x) d.goers) ∙ h) }
 
 -- the same by what the code finds
-pub described_so : (mark : ℕ) (k : Known) (t : Tree) (l : Label) (cs : Forest) (p : Parts) (i : Item) (v b : Bool) (none blank : List ℕ) → Divides mark l cs p → Gathers k none i.goers.items b (tight_inside (kind_label p.inner.kind) (children_forest p.inner.children)) (goers_inside (kind_label p.inner.kind) (children_forest p.inner.children)) → ((n : ℕ) → among i.notes.items n ≡ (among blank n || keeps_number k (own_mention l ++ mentions_among cs) n)) → label_of t ≡ l → children_of t ≡ cs → Tells k.uses.now (node Module [] (t ⊳ ε)) → v ≡ is_void l cs → v ≡ false → GoesBy (map string_bytes k.retained.now) k.names.now (name_of p.name) i.name → none ≡ [] → b ≡ true → blank ≡ [] → Describes mark (map string_bytes k.retained.now) k.names.now t i
+pub described_so : (mark : ℕ) (k : Known) (t : Tree) (l : Label) (cs : Forest) (p : Parts) (i : Item) (v b : Bool) (none blank : List ℕ) → Divides mark l cs p → Gathers k none i.goers.items b (tight_inside (kind_label p.inner.kind) (children_forest p.inner.children)) (goers_inside (kind_label p.inner.kind) (children_forest p.inner.children)) → ((n : ℕ) → among i.notes.items n ≡ (among blank n || keeps_number k (own_mention l ++ mentions_among cs) n)) → label_of t ≡ l → children_of t ≡ cs → Tells k.uses.now (node Module [] (t ⊳ ε)) → v ≡ is_void l cs → v ≡ false → GoesBy k.retained.now k.names.now (name_of p.name) i.name → none ≡ [] → b ≡ true → blank ≡ [] → Describes mark k.retained.now k.names.now t i
 described_so mark k t l cs p i v b none blank d g h labelled held u w solid f n going m =
     let ts = tight_inside (kind_label p.inner.kind) (children_forest p.inner.children) in
     let xs = goers_inside (kind_label p.inner.kind) (children_forest p.inner.children) in
     let q : Found mark k l cs i = record {
       solid = sym w ∙ solid;
-      name = subst (λ o. GoesBy (map string_bytes k.retained.now) k.names.now o i.name) (sym d.name) f;
+      name = subst (λ o. GoesBy k.retained.now k.names.now o i.name) (sym d.name) f;
       goers = gathered mark k l cs p i.goers.items d (subst (λ a. Gathers k [] i.goers.items a ts xs) going (subst (λ (ns : List ℕ). Gathers k ns i.goers.items b ts xs) n g));
       notes = λ x. h x ∙ ap (λ (ns : List ℕ). among ns x || keeps_number k (own_mention l ++ mentions_among cs) x) m;
     } in described mark k t l cs i labelled held u q

@@ -1,5 +1,5 @@
 -- What the walk over an item gathers.
-use Rattle.std.proofs.Common.{ℕ, ◌≡◌, ◌⊎◌, inl, inr, Option, Some, None, position, IfSome, Bool, true, false, not, ◌&&◌, ◌||◌, if◌then◌else◌, List, [], ◌∷◌, ◌++◌, map, string_bytes, refl, sym, ap, subst, ◌∙◌}
+use Rattle.std.proofs.Common.{ℕ, ◌≡◌, ◌⊎◌, inl, inr, Option, Some, None, position, IfSome, Bool, true, false, not, ◌&&◌, ◌||◌, if◌then◌else◌, List, [], ◌∷◌, ◌++◌, refl, sym, ap, subst, ◌∙◌}
 use Rattle.std.proofs.lemmas.Bool.{false≢true, or_cases, and_from}
 use Rattle.swc_ast.specs.Reach.{is_for}
 use Rattle.swc_ast.specs.Run.{has_text}
@@ -48,7 +48,7 @@ module _ (k : Known) where
   pub one_kept : (ns : List ℕ) (x : Name) → is_free k.uses.now x ≡ false → Gathers k ns ns true true (x ∷ [])
   one_kept ns x h = one ns ns x (λ n i. i) (inl h)
 
-  pub one_retained : (ns : List ℕ) (x : Name) → has_text x.text (map string_bytes k.retained.now) ≡ true → Gathers k ns ns true true (x ∷ [])
+  pub one_retained : (ns : List ℕ) (x : Name) → has_text x.text k.retained.now ≡ true → Gathers k ns ns true true (x ∷ [])
   one_retained ns x h = one ns ns x (λ n i. i) (inr (inl h))
 
   pub one_added : (old new : List ℕ) (x : Name) (m : ℕ) → IsNumber k.names.now x m → new ≡ old ++ m ∷ [] → Gathers k old new true true (x ∷ [])

@@ -1,5 +1,5 @@
 -- Layers by numbers are layers of trees.
-use Rattle.std.proofs.Common.{ℕ, ◌+◌, ◌≡◌, ◌≤◌, ◌<◌, ◌⊎◌, inl, inr, Bool, true, false, ◌||◌, if◌then◌else◌, List, [], ◌∷◌, Option, Some, None, IfSome, Vec, Global, max, nat_eq, nat_lt, refl, sym, ap, ap₂, subst, arith}
+use Rattle.std.proofs.Common.{ℕ, ◌+◌, ◌≡◌, ◌≤◌, ◌<◌, ◌⊎◌, inl, inr, Bool, true, false, ◌||◌, if◌then◌else◌, List, [], ◌∷◌, Option, Some, None, IfSome, Vec, Global, max, nat_eq, nat_lt, refl, sym, ap, ap₂, subst, ◌∙◌, arith}
 use Rattle.std.proofs.lemmas.Bool.{false≢true, ltb-true, ltb-false, eqb-true}
 use Rattle.std.proofs.lemmas.Option.{none-some}
 use Rattle.swc_ast.specs.Parts.{list_trees}
@@ -101,12 +101,40 @@ laid mark retained names ts is ends rs some d l = record {
   reaches = reaches mark retained names (Fits (rounds.top is rs) ends) ends ts is rs d l.fit (l.reaches some);
 }
 
+-- retained are texts that are others too
+
+gone_by : (a b : List Text) → ((t : Text) → has_text t a ≡ has_text t b) → (names : List Name) (o : Option Name) (i : Option ℕ) → GoesBy a names o i → GoesBy b names o i
+gone_by a b same names (Some x) (Some n) h = (sym (same x.text) ∙ h.0, h.1)
+gone_by a b same names (Some x) None h = sym (same x.text) ∙ h
+gone_by a b same names None (Some n) h = h
+gone_by a b same names None None h = h
+
+retold : (a b : List Text) → ((t : Text) → has_text t a ≡ has_text t b) → (mark : ℕ) (names : List Name) (ts : Forest) (is : List Item) → AllDescribed mark a names ts is → AllDescribed mark b names ts is
+retold a b same mark names ε [] h = h
+retold a b same mark names ε (i ∷ is) h = absurd h
+retold a b same mark names (t ⊳ ts) [] h = absurd h
+retold a b same mark names (t ⊳ ts) (i ∷ is) h = (
+  record {
+    tight = h.0.tight;
+    solid = h.0.solid;
+    name = gone_by a b same names (goes_with mark (label_of t) (trees_of t)) i.name h.0.name;
+    goers = λ x g. by x (h.0.goers x g);
+    notes = h.0.notes;
+  },
+  retold a b same mark names ts is h.1,
+)
+  where
+    by : (x : Name) → (notes x t ≡ true) ⊎ ((has_text x.text a ≡ true) ⊎ IsAmong names i.goers.items x) → (notes x t ≡ true) ⊎ ((has_text x.text b ≡ true) ⊎ IsAmong names i.goers.items x)
+    by x (inl g) = inl g
+    by x (inr (inl g)) = inr (inl (sym (same x.text) ∙ g))
+    by x (inr (inr g)) = inr (inr g)
+
 -- the same by what the code finds
-pub laid_from : (mark : ℕ) (retained : List Text) (names : List Name) (ts us : Forest) (o : Option (Vec Item Global)) (v : Vec Item Global) (js : List Item) (ends : ℕ) (rs : List ℕ) → ts ≡ us → o ≡ Some v → IfSome o (λ w. AllDescribed mark retained names us w.items) → js ≡ v.items → (0 < ends → AreLayers js ends rs) → 0 < ends → IsLayered mark retained ends ts rs
-laid_from mark retained names ts us None v js ends rs same is d e l some = absurd (none-some v is)
-laid_from mark retained names ts us (Some w) v js ends rs same is d e l some =
+pub laid_from : (mark : ℕ) (told retained : List Text) (names : List Name) (ts us : Forest) (o : Option (Vec Item Global)) (v : Vec Item Global) (js : List Item) (ends : ℕ) (rs : List ℕ) → ((t : Text) → has_text t told ≡ has_text t retained) → ts ≡ us → o ≡ Some v → IfSome o (λ w. AllDescribed mark told names us w.items) → js ≡ v.items → (0 < ends → AreLayers js ends rs) → 0 < ends → IsLayered mark retained ends ts rs
+laid_from mark told retained names ts us None v js ends rs kept same is d e l some = absurd (none-some v is)
+laid_from mark told retained names ts us (Some w) v js ends rs kept same is d e l some =
     let f : js ≡ w.items = cc in
-    laid mark retained names ts w.items ends rs some (subst (λ (vs : Forest). AllDescribed mark retained names vs w.items) (sym same) d) (subst (λ (ks : List Item). AreLayers ks ends rs) f (l some))
+    laid mark retained names ts w.items ends rs some (retold told retained kept mark names ts w.items (subst (λ (vs : Forest). AllDescribed mark told names vs w.items) (sym same) d)) (subst (λ (ks : List Item). AreLayers ks ends rs) f (l some))
 
 -- the items that stay are those that are left
 pub staying_live : {A : Type 0} (f : A → Tree) (ends : ℕ) (xs : List A) (rs : List ℕ) → items (layered (list_trees f xs) rs) ≡ list_trees f xs → list_trees f (staying ends xs rs) ≡ live (ends + 1) (layered (list_trees f xs) rs)

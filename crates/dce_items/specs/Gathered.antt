@@ -1,6 +1,6 @@
 -- What is gathered in a walk over an item.
 use Rattle.std.specs.Borrow.{Bor}
-use Rattle.std.specs.Prelude.{ℕ, ◌≡◌, ◌⊎◌, Bool, true, false, not, ◌&&◌, ◌||◌, if◌then◌else◌, List, [], ◌∷◌, ◌++◌, Option, Some, None, map, string_bytes, position, nat_eq}
+use Rattle.std.specs.Prelude.{ℕ, ◌≡◌, ◌⊎◌, Bool, true, false, not, ◌&&◌, ◌||◌, if◌then◌else◌, List, [], ◌∷◌, ◌++◌, Option, Some, None, position, nat_eq}
 use Rattle.swc_ast.specs.declared.Span.{Span}
 use Rattle.swc_ast.specs.declared.VarDeclKind.{VarDeclKind}
 use Rattle.swc_ast.specs.declared.names.Ident.{Ident}
@@ -57,7 +57,7 @@ DividesAt mark item variable p =
 
 -- A name is kept by its item, or it is retained, or its number is among some.
 abbrev pub Settled : Known → List ℕ → Name → Type 0
-Settled k ns x = (is_free k.uses.now x ≡ false) ⊎ ((has_text x.text (map string_bytes k.retained.now) ≡ true) ⊎ IsAmong k.names.now ns x)
+Settled k ns x = (is_free k.uses.now x ≡ false) ⊎ ((has_text x.text k.retained.now ≡ true) ⊎ IsAmong k.names.now ns x)
 
 -- Numbers become others by a walk, which goes on where it finds what is tight; then each of some names is settled.
 pub record Gathers (k : Known) (old new : List ℕ) (goes : Bool) (is_tight : Bool) (xs : List Name) : Type 0 where

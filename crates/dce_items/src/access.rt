@@ -1,18 +1,10 @@
 //! How items read and write names.
 use dce_peel::Access;
-use dce_uses::{declared_name, named};
+use dce_uses::{declared_name, is_read, named};
 use std::alloc::{AllocError, Global};
-use swc_ast::{AssignOp, Ident};
+use swc_ast::Ident;
 use swc_names::Names;
 use swc_visit::{Children, Kind, Opened};
-
-/// Whether a node assigns to the name that it names, and doesn't read it.
-fn is_write(kind: Kind<'_>) -> bool {
-    match kind {
-        Kind::Assign(op, _) => op == AssignOp::Assign,
-        _ => false,
-    }
-}
 
 /// Adds the number of a name, if there is one.
 fn add(names: &Names, name: Option<&Ident>, numbers: &mut Vec<usize>) -> Result<(), AllocError> {
@@ -28,10 +20,10 @@ fn add(names: &Names, name: Option<&Ident>, numbers: &mut Vec<usize>) -> Result<
 
 /// Adds how a node itself uses names.
 fn add_own(names: &Names, kind: Kind<'_>, access: &mut Access) -> Result<(), AllocError> {
-    if is_write(kind) {
-        add(names, named(kind), &mut access.writes)?;
-    } else {
+    if is_read(kind) {
         add(names, named(kind), &mut access.reads)?;
+    } else {
+        add(names, named(kind), &mut access.writes)?;
     }
     add(names, declared_name(kind), &mut access.declares)
 }

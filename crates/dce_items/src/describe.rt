@@ -1,5 +1,5 @@
 //! Items by numbers of names.
-ghost use Rattle.std.specs.Prelude.{◌≡◌, map, string_bytes, IfOk, IfErr, IfSome};
+ghost use Rattle.std.specs.Prelude.{◌≡◌, IfOk, IfErr, IfSome};
 ghost use Rattle.swc_ast.specs.declared.errors.PassError.TheVariants.{OutOfMemory};
 ghost use Rattle.swc_utils.specs.Globals.{unresolved};
 ghost use Rattle.swc_visit.specs.Nodes.{node_tree, children_forest};
@@ -9,7 +9,7 @@ use crate::kinds::is_void;
 use crate::known::Known;
 use crate::parts::parts_of;
 use dce_peel::Item;
-use dce_uses::Uses;
+use dce_uses::{Retained, Uses};
 use std::alloc::Global;
 use swc_ast::PassError;
 use swc_names::Names;
@@ -20,11 +20,11 @@ use swc_visit::{Children, Node};
 fn describe(
     alloc: Global,
     names: &Names,
-    retained: &[String],
+    retained: &Retained<'_>,
     ctx: &ExprCtx,
     item: Node<'_>,
 ) -> Result<Option<Item>, PassError>
-    ensures described { IfOk result (λ o. IfSome o (Describes (unresolved ctx.now) (map string_bytes retained.now) names.now (node_tree item.entry))) }
+    ensures described { IfOk result (λ o. IfSome o (Describes (unresolved ctx.now) retained.now names.now (node_tree item.entry))) }
     ensures memory { IfErr result (λ e. e ≡ OutOfMemory) }
 {
     let uses = Uses::of_item(alloc, item)?;
@@ -57,11 +57,11 @@ fn describe(
 pub(crate) fn describe_all(
     alloc: Global,
     names: &Names,
-    retained: &[String],
+    retained: &Retained<'_>,
     ctx: &ExprCtx,
     items: Children<'_>,
 ) -> Result<Option<Vec<Item>>, PassError>
-    ensures described { IfOk result (λ o. IfSome o (λ v. AllDescribed (unresolved ctx.now) (map string_bytes retained.now) names.now (children_forest items.entry) v.items)) }
+    ensures described { IfOk result (λ o. IfSome o (λ v. AllDescribed (unresolved ctx.now) retained.now names.now (children_forest items.entry) v.items)) }
     ensures memory { IfErr result (λ e. e ≡ OutOfMemory) }
 {
     let mut described = Vec::new(alloc);

@@ -10,7 +10,7 @@ use crate::known::Known;
 use std::alloc::AllocError;
 use swc_visit::{Children, Opened};
 
-impl<'a> Known<'a> {
+impl<'a, 'b> Known<'a, 'b> {
     /// Adds the names that are declared below a node, where they are entered. False where something in its lists goes in any
     /// case, or nothing is known of a name.
     #[cycle(gather)]

@@ -1,5 +1,5 @@
 //! What is known of names while an item is walked.
-ghost use Rattle.std.specs.Prelude.{◌≡◌, ◌||◌, map, string_bytes, IfOk, IfSome, OnOk, IsTrue, true, ℕ};
+ghost use Rattle.std.specs.Prelude.{◌≡◌, ◌||◌, IfOk, IfSome, OnOk, IsTrue, true, ℕ};
 ghost use Rattle.swc_ast.specs.Parts.{ident_name};
 ghost use Rattle.swc_ast.specs.Run.{has_text};
 ghost use Rattle.swc_names.specs.Ids.{optional};
@@ -7,41 +7,27 @@ ghost use Rattle.dce_peel.specs.Rounds.{among};
 ghost use Rattle.dce_items.specs.Described.{GoesBy, IsNumber};
 ghost use Rattle.dce_items.specs.Gathered.{Gathers, keeps_number, name_of};
 
-use dce_uses::{Uses, is_default};
+use dce_uses::{Retained, Uses, is_default};
 use std::alloc::AllocError;
 use swc_ast::Ident;
 use swc_names::Names;
 
 /// What is known of names.
 #[derive(Clone, Copy)]
-pub(crate) struct Known<'a> {
+pub(crate) struct Known<'a, 'b> {
     /// The numbers of names.
     pub(crate) names: &'a Names,
     /// The texts of names that stay.
-    pub(crate) retained: &'a [String],
+    pub(crate) retained: &'a Retained<'b>,
     /// How the item uses its names.
     pub(crate) uses: &'a Uses,
 }
 
-/// Whether a text is among some.
-fn is_among(texts: &[String], text: &str) -> bool
-    ensures { result ≡ has_text text.now (map string_bytes texts.now) }
-{
-    let mut left = texts;
-    while let [first, rest @ ..] = left {
-        if text == first.as_str() {
-            return true;
-        }
-        left = rest;
-    }
-    false
-}
-
-impl<'a> Known<'a> {
+impl<'a, 'b> Known<'a, 'b> {
     fn is_retained(&self, name: &Ident) -> bool
-        ensures { result ≡ has_text (ident_name name.now).text (map string_bytes self.now.retained.now) }
+        ensures { result ≡ has_text (ident_name name.now).text self.now.retained.now }
     {
-        is_among(self.retained, &name.sym)
+        self.retained.has(&name.sym)
     }
 
     #[tactic(auto, using(crate::proofs::Gathering::numbered))]
@@ -56,7 +42,7 @@ impl<'a> Known<'a> {
 
     /// The number of the name with which an item goes, if there is one and it isn't retained; nothing where nothing is known of it.
     pub(crate) fn goer(&self, name: Option<&Ident>) -> Option<Option<usize>>
-        ensures { IfSome result (GoesBy (map string_bytes self.now.retained.now) self.now.names.now (name_of name.entry)) }
+        ensures { IfSome result (GoesBy self.now.retained.now self.now.names.now (name_of name.entry)) }
     {
         let Some(name) = name else {
             return Some(None);

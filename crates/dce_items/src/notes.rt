@@ -11,7 +11,7 @@ use dce_uses::{declared_name, named};
 use std::alloc::AllocError;
 use swc_visit::{Children, Kind, Opened};
 
-impl<'a> Known<'a> {
+impl<'a, 'b> Known<'a, 'b> {
     /// Adds the numbers of the names that stand in a node and that the item keeps.
     #[tactic(auto, using(crate::proofs::Noting::two))]
     fn note_own(&self, kind: Kind<'_>, notes: &mut Vec<usize>) -> Result<(), AllocError>

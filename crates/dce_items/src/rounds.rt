@@ -9,6 +9,7 @@ ghost use Rattle.dce_items.specs.Described.{IsLayered};
 use crate::access::accesses_of;
 use crate::describe::describe_all;
 use dce_peel::{Layering, layers_of};
+use dce_uses::Retained;
 use std::alloc::Global;
 use swc_ast::{Module, PassError};
 use swc_names::Names;
@@ -30,8 +31,9 @@ pub fn rounds_of(
     ensures memory { IfErr result (λ e. e ≡ OutOfMemory) }
 {
     let names = Names::new(alloc, &module.body)?;
+    let retained = Retained::of(alloc, retained)?;
     let items = Node::Module(module).open().children;
-    let Some(described) = describe_all(alloc, &names, retained, ctx, items)? else {
+    let Some(described) = describe_all(alloc, &names, &retained, ctx, items)? else {
         return Ok(Layering {
             layers: Vec::new(alloc),
             rounds: 0,

@@ -1,6 +1,7 @@
 mod Adding
 mod Counting
 mod Numbering
+mod Retaining
 mod Searches
 mod Seeing
 mod Lists

@@ -93,7 +93,7 @@ impl Table {
         ensures { OnOk result (Notes self.old self.new (λ f x. noted.by_naming f x place (kind_label kind.entry))) }
     {
         match named(kind) {
-            Some(name) => self.add_all(name, naming(kind, place)),
+            Some(name) => self.add_tally(name, naming(kind, place)),
             None => Ok(()),
         }
     }
@@ -103,7 +103,7 @@ impl Table {
         ensures { OnOk result (Notes self.old self.new (λ f x. noted.by_declaring f x place (kind_label kind.entry))) }
     {
         match declared_name(kind) {
-            Some(name) => self.add_all(name, declaring(kind, place)),
+            Some(name) => self.add_tally(name, declaring(kind, place)),
             None => Ok(()),
         }
     }

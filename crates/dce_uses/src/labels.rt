@@ -20,7 +20,7 @@ fn is_plain(op: AssignOp) -> bool
 }
 
 /// Whether a node that names something reads it: all but plain assignments do.
-pub(crate) fn is_read(kind: Kind<'_>) -> bool
+pub fn is_read(kind: Kind<'_>) -> bool
     ensures { result ≡ noted.reads (kind_label kind.entry) }
 {
     match kind {

@@ -1,4 +1,4 @@
-//! How the names of a tree are used: counted in one walk, for all names at once.
+//! How the names of a tree are used: counted in one walk, for all names at once. And the texts of names that stay, in order.
 #![tactic(auto)]
 
 mod count;
@@ -6,11 +6,13 @@ mod exports;
 mod labels;
 mod listed;
 mod place;
+mod retained;
 mod scans;
 mod seen;
 mod table;
 mod tally;
 mod uses;
 
-pub use labels::{declared_name, named};
+pub use labels::{declared_name, is_read, named};
+pub use retained::Retained;
 pub use uses::{Uses, is_default};

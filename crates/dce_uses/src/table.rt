@@ -56,7 +56,7 @@ impl Table {
     }
 
     /// Notes more of a name.
-    pub(crate) fn add_all(&mut self, name: &Ident, more: Tally) -> Result<(), AllocError>
+    pub(crate) fn add_tally(&mut self, name: &Ident, more: Tally) -> Result<(), AllocError>
         ensures { OnOk result (Notes self.old self.new (λ f x. holds more f && has_name x (ident_name name.now ∷ []))) }
     {
         let number = self.number(name)?;
@@ -71,7 +71,7 @@ impl Table {
         ensures { OnOk result (Notes self.old self.new (λ f x. is_hiding f && has_name x (optional name.entry))) }
     {
         match name {
-            Some(name) => self.add_all(name, Tally::hidden()),
+            Some(name) => self.add_tally(name, Tally::hidden()),
             None => Ok(()),
         }
     }

@@ -1,6 +1,8 @@
 //! The pass.
-ghost use Rattle.std.specs.Prelude.{◌≡◌, not, false, map, string_bytes, codes};
+ghost use Rattle.std.specs.Prelude.{◌≡◌, not, false, map, string_bytes, codes, IfOk};
 ghost use Rattle.swc_ast.specs.Marks.{mark_number};
+ghost use Rattle.swc_ast.specs.Run.{has_text};
+ghost use Rattle.swc_ast.specs.Tree.{Text};
 ghost use Rattle.swc_utils.specs.Globals.{unresolved};
 ghost use Rattle.swc_dce.specs.Configured as configured;
 ghost use Rattle.swc_dce.specs.Shaken.{Told, shake_spec, shake_lawful};
@@ -8,8 +10,8 @@ ghost use Rattle.swc_dce.specs.Shaken.{Told, shake_spec, shake_lawful};
 use crate::config::Config;
 use crate::rules::ShakeRules;
 use dce_code::Known;
-use dce_uses::Uses;
-use std::alloc::Global;
+use dce_uses::{Retained, Uses};
+use std::alloc::{AllocError, Global};
 use swc_ast::{Mark, Module, PassError, Script, SyntaxContext};
 use swc_pass::{CompilerPass, Pass, Repeated};
 use swc_utils::ExprCtx;
@@ -46,21 +48,21 @@ impl TreeShaker {
         }
     }
 
-    /// What is known in a run over a module or a script that uses its names so.
-    fn known<'a>(&'a self, uses: &'a Uses) -> Known<'a>
-        ensures uses { result.uses.now ≡ uses.now }
-        ensures mark { unresolved result.ctx ≡ mark_number self.now.unresolved_mark }
-        ensures retained { result.retained.now ≡ self.now.config.top_retain.items }
-        ensures top_level { result.top_level ≡ self.now.config.top_level }
-        ensures imports { result.drops_imports ≡ not self.now.config.preserve_imports_with_side_effects }
+    /// What is known in a run over a module or a script that uses its names so. Fails where memory is refused.
+    fn known<'a>(&'a self, alloc: Global, uses: &'a Uses) -> Result<Known<'a>, AllocError>
+        ensures uses { IfOk result (λ k. k.uses.now ≡ uses.now) }
+        ensures mark { IfOk result (λ k. unresolved k.ctx ≡ mark_number self.now.unresolved_mark) }
+        ensures retained { IfOk result (λ k. (t : Text) → has_text t k.retained ≡ has_text t (map string_bytes self.now.config.top_retain.items)) }
+        ensures top_level { IfOk result (λ k. k.top_level ≡ self.now.config.top_level) }
+        ensures imports { IfOk result (λ k. k.drops_imports ≡ not self.now.config.preserve_imports_with_side_effects) }
     {
-        Known {
+        Ok(Known {
             uses,
-            retained: &self.config.top_retain,
+            retained: Retained::of(alloc, &self.config.top_retain)?,
             ctx: self.ctx(),
             top_level: self.config.top_level,
             drops_imports: !self.config.preserve_imports_with_side_effects,
-        }
+        })
     }
 }
 
@@ -106,7 +108,7 @@ impl Pass for TreeShaker {
     fn rewrite(&mut self, alloc: Global, mut module: Module) -> Result<Module, PassError> {
         self.changed = false;
         let uses = Uses::of_module(alloc, &module)?;
-        let known = self.known(&uses);
+        let known = self.known(alloc, &uses)?;
         let changed = walk_module(&ShakeRules { alloc, known }, &mut module)?;
         self.changed = changed;
         Ok(module)
@@ -116,7 +118,7 @@ impl Pass for TreeShaker {
     fn rewrite_script(&mut self, alloc: Global, mut script: Script) -> Result<Script, PassError> {
         self.changed = false;
         let uses = Uses::of_script(alloc, &script)?;
-        let known = self.known(&uses);
+        let known = self.known(alloc, &uses)?;
         let changed = walk_script(&ShakeRules { alloc, known }, &mut script)?;
         self.changed = changed;
         Ok(script)

@@ -1,4 +1,3 @@
-use Rattle.std.proofs.Common.{map, string_bytes}
 use Rattle.swc_utils.specs.Globals.{unresolved}
 use Rattle.swc_visit.specs.Nodes.{children_forest}
 use Rattle.swc_visit.proofs.Caps.{forest_size}
@@ -6,7 +5,7 @@ use Rattle.dce_items.proofs.Describing.{Left}
 use Rattle.dce_items.proofs.describe.describe_all.Given as goal
 
 abbrev pub invariant-loop-item : goal.invariant-loop-item
-invariant-loop-item l = Left (unresolved l.ctx) (map string_bytes l.retained) l.names l.described.items (children_forest l.items) (children_forest l.left)
+invariant-loop-item l = Left (unresolved l.ctx) l.retained l.names l.described.items (children_forest l.items) (children_forest l.left)
 
 abbrev pub decreases-loop-item : goal.decreases-loop-item
 decreases-loop-item l = forest_size (children_forest l.left)

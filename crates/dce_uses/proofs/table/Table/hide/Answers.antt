@@ -8,9 +8,9 @@ use Rattle.dce_uses.proofs.table.Table.hide.Goals as goal
 
 pub returns-in-Some : goal.returns-in-Some
 returns-in-Some c =
-    on_ok_weaker c.add_all.result
-    (one_said c.args.self.now c.add_all.new.self c.hidden.result is_hiding (ident_name c.in-Some.name.now ∷ []) (optional c.args.name) c.hidden.ensures (sym (ap optional c.in-Some.is)))
-    c.add_all.ensures
+    on_ok_weaker c.add_tally.result
+    (one_said c.args.self.now c.add_tally.new.self c.hidden.result is_hiding (ident_name c.in-Some.name.now ∷ []) (optional c.args.name) c.hidden.ensures (sym (ap optional c.in-Some.is)))
+    c.add_tally.ensures
 
 pub returns-in-None : goal.returns-in-None
 returns-in-None c = none_said c.args.self.now is_hiding (optional c.args.name) (sym (ap optional c.in-None.is))

@@ -11,9 +11,9 @@ use Rattle.dce_uses.proofs.table.Table.note_named.Goals as goal
 pub returns-in-Some : goal.returns-in-Some
 returns-in-Some c =
     let l = kind_label c.args.kind in
-    on_ok_weaker c.add_all.result
-    (one_said c.args.self.now c.add_all.new.self c.naming.result (λ f. naming f c.args.place l) (ident_name c.in-Some.name.now ∷ []) (named_by l) c.naming.ensures (sym (ap optional c.in-Some.is) ∙ c.named.ensures))
-    c.add_all.ensures
+    on_ok_weaker c.add_tally.result
+    (one_said c.args.self.now c.add_tally.new.self c.naming.result (λ f. naming f c.args.place l) (ident_name c.in-Some.name.now ∷ []) (named_by l) c.naming.ensures (sym (ap optional c.in-Some.is) ∙ c.named.ensures))
+    c.add_tally.ensures
 
 pub returns-in-None : goal.returns-in-None
 returns-in-None c =

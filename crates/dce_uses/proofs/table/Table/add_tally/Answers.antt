@@ -3,7 +3,7 @@ use Rattle.swc_ast.specs.Parts.{ident_name}
 use Rattle.dce_uses.specs.Tables.{holds}
 use Rattle.dce_uses.proofs.Counting.{alone}
 use Rattle.dce_uses.proofs.Numbering.{changes, with_tally, noted_one, never_beyond}
-use Rattle.dce_uses.proofs.table.Table.add_all.Goals as goal
+use Rattle.dce_uses.proofs.table.Table.add_tally.Goals as goal
 
 pub returns-then-number-len : goal.returns-then-number-len
 returns-then-number-len c =
