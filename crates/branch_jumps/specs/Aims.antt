@@ -1,15 +1,25 @@
 -- Jumps that are looked for, as the kinds of a rule.
 use Rattle.std.specs.Borrow.{Bor}
-use Rattle.std.specs.Prelude.{ℕ, List, Option, Some, None}
+use Rattle.std.specs.Prelude.{List, [], ◌∷◌, Option, Some, None}
 use Rattle.swc_ast.specs.Tree.{Text}
 use Rattle.branch_rules.specs.Jumps.{Kinds}
 use Rattle.branch_jumps.specs.declared.aims.Jumps.{Jumps}
+use Rattle.branch_jumps.specs.declared.aims.Labels.{Labels, Labels', Held-Labels-others, None', Some'}
 
--- a label, if there is one
-abbrev pub label_text : Option (Bor (List ℕ)) → Option Text
-label_text None = None
-label_text (Some t) = Some t.now
+-- labels, the innermost first
+abbrev mutual
+  pub label_texts : Labels → List Text
+  label_texts (Labels' label others) = label.now ∷ other_texts others
+
+  pub other_texts : Held-Labels-others → List Text
+  other_texts None' = []
+  other_texts (Some' p labels) = label_texts labels
+
+-- those that are given, if any are
+abbrev pub texts : Option (Bor Labels) → List Text
+texts None = []
+texts (Some labels) = label_texts labels.now
 
 -- the same in the words of the rules
 abbrev pub kinds : Jumps → Kinds
-kinds j = record { breaks = j.breaks; continues = j.continues; labelled = j.labelled; inside = label_text j.inside }
+kinds j = record { breaks = j.breaks; continues = j.continues; labelled = j.labelled; inside = texts j.inside }

@@ -1,9 +1,38 @@
 //! Which jumps are looked for.
-ghost use Rattle.std.specs.Prelude.{◌≡◌, ◌&&◌, not};
+ghost use Rattle.std.specs.Prelude.{◌≡◌, ◌&&◌, ◌∷◌, not};
+ghost use Rattle.swc_ast.specs.Meaning.{has_label};
 ghost use Rattle.branch_rules.specs.Jumps as rules;
 ghost use Rattle.branch_rules.specs.Once as once;
 ghost use Rattle.branch_rules.specs.Switches as switches;
-ghost use Rattle.branch_jumps.specs.Aims.{kinds, label_text};
+ghost use Rattle.branch_jumps.specs.Aims.{kinds, label_texts, texts};
+
+/// Labels round a place, the innermost first.
+#[derive(Clone, Copy)]
+pub struct Labels<'a> {
+    /// the innermost
+    pub label: &'a str,
+    /// the others, if there are any
+    pub others: Option<&'a Labels<'a>>,
+}
+
+impl<'a> Labels<'a> {
+    /// A label that stands inside others.
+    pub(crate) fn new(label: &'a str, others: Option<&'a Labels<'a>>) -> Labels<'a>
+        ensures { label_texts result ≡ label.entry.now ∷ texts others.entry }
+    {
+        Labels { label, others }
+    }
+}
+
+/// Whether a label is among some.
+fn is_among(label: &str, labels: Option<&Labels<'_>>) -> bool
+    ensures { result ≡ has_label label.now (texts labels.entry) }
+{
+    match labels {
+        Some(n) => label == n.label || is_among(label, n.others),
+        None => false,
+    }
+}
 
 /// Which jumps are looked for; those with a label but `continue` never are.
 #[derive(Clone, Copy)]
@@ -14,9 +43,9 @@ pub struct Jumps<'a> {
     pub continues: bool,
     /// `continue` with a label
     pub labelled: bool,
-    /// the label with which `continue` isn't looked for: it stands in front of the nearest loop round the place that has
-    /// one and is looked into itself
-    pub inside: Option<&'a str>,
+    /// the labels with which `continue` isn't looked for: those of the loops round the place that are looked into
+    /// themselves
+    pub inside: Option<&'a Labels<'a>>,
 }
 
 impl<'a> Jumps<'a> {
@@ -56,9 +85,9 @@ impl<'a> Jumps<'a> {
         }
     }
 
-    /// Those that leave a loop which stands inside, behind a label.
-    pub(crate) fn in_loop(self, near: Option<&'a str>) -> Jumps<'a>
-        ensures { kinds result ≡ rules.in_loop (label_text near.entry) (kinds self.entry) }
+    /// Those that leave a loop which stands inside, with its labels in front of those of the loops round it.
+    pub(crate) fn in_loop(self, near: Option<&'a Labels<'a>>) -> Jumps<'a>
+        ensures { kinds result ≡ rules.in_loop (texts near.entry) (kinds self.entry) }
     {
         Jumps {
             breaks: false,
@@ -82,11 +111,8 @@ impl<'a> Jumps<'a> {
 
     /// Whether `continue` with this label is looked for.
     pub(crate) fn has_label(self, label: &str) -> bool
-        ensures { result ≡ ((kinds self.entry).labelled && not (rules.is_label label.now (kinds self.entry).inside)) }
+        ensures { result ≡ ((kinds self.entry).labelled && not (has_label label.now (kinds self.entry).inside)) }
     {
-        match self.inside {
-            Some(other) => self.labelled && label != other,
-            None => self.labelled,
-        }
+        self.labelled && !is_among(label, self.inside)
     }
 }

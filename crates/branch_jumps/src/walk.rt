@@ -1,17 +1,19 @@
 //! The walk over statements. No jump leaves an expression, so it enters none.
-ghost use Rattle.std.specs.Prelude.{◌≡◌, Option, map};
+ghost use Rattle.std.specs.Prelude.{◌≡◌, List, map};
 ghost use Rattle.swc_ast.specs.Parts.{list_trees, optional_trees};
-ghost use Rattle.swc_ast.specs.Statements.{block_tree, break_tree, case_children, continue_tree, handler_tree, option_block_tree, try_tree};
+ghost use Rattle.swc_ast.specs.Statements.{block_tree, break_tree, case_children, continue_tree, handler_tree, labeled_tree, option_block_tree, try_tree};
 ghost use Rattle.swc_ast.specs.Tree.{Text};
 ghost use Rattle.swc_ast.specs.Views.{case_trees, if_tree, stmt_tree};
 ghost use Rattle.branch_rules.specs.Jumps.{escapes, escapes_behind, some_escape};
-ghost use Rattle.branch_jumps.specs.Aims.{kinds, label_text};
+ghost use Rattle.branch_jumps.specs.Aims.{kinds, texts};
 
-use crate::aims::Jumps;
-use swc_ast::{BlockStmt, BreakStmt, CatchClause, ContinueStmt, IfStmt, Stmt, SwitchCase, TryStmt};
+use crate::aims::{Jumps, Labels};
+use swc_ast::{
+    BlockStmt, BreakStmt, CatchClause, ContinueStmt, IfStmt, LabeledStmt, Stmt, SwitchCase, TryStmt,
+};
 
 fn is_break(jumps: Jumps<'_>, n: &BreakStmt) -> bool
-    ensures { (near : Option Text) → result ≡ escapes_behind near (kinds jumps.entry) (break_tree n.now) }
+    ensures { (near : List Text) → result ≡ escapes_behind near (kinds jumps.entry) (break_tree n.now) }
 {
     match &n.label {
         Some(_) => false,
@@ -20,7 +22,7 @@ fn is_break(jumps: Jumps<'_>, n: &BreakStmt) -> bool
 }
 
 fn is_continue(jumps: Jumps<'_>, n: &ContinueStmt) -> bool
-    ensures { (near : Option Text) → result ≡ escapes_behind near (kinds jumps.entry) (continue_tree n.now) }
+    ensures { (near : List Text) → result ≡ escapes_behind near (kinds jumps.entry) (continue_tree n.now) }
 {
     match &n.label {
         Some(label) => jumps.has_label(&label.sym),
@@ -37,15 +39,15 @@ pub fn has_jump(jumps: Jumps<'_>, s: &Stmt) -> bool
     has_jump_behind(jumps, jumps.inside, s)
 }
 
-/// The same of a statement right behind a label.
+/// The same of a statement right behind labels, which come before those of the loops round it.
 #[cycle(jumps)]
 #[tactic(auto, using(swc_ast::proofs::Equations::forms, crate::proofs::Nodes::nodes))]
-fn has_jump_behind(jumps: Jumps<'_>, near: Option<&str>, s: &Stmt) -> bool
-    ensures { result ≡ escapes_behind (label_text near.entry) (kinds jumps.entry) (stmt_tree s.now) }
+fn has_jump_behind(jumps: Jumps<'_>, near: Option<&Labels<'_>>, s: &Stmt) -> bool
+    ensures { result ≡ escapes_behind (texts near.entry) (kinds jumps.entry) (stmt_tree s.now) }
 {
     match s {
         Stmt::Block(n) => block_has_jump(jumps, n),
-        Stmt::Labeled(n) => has_jump_behind(jumps, Some(&n.label.sym), &n.body),
+        Stmt::Labeled(n) => label_has_jump(jumps, near, n),
         Stmt::Break(n) => is_break(jumps, n),
         Stmt::Continue(n) => is_continue(jumps, n),
         Stmt::If(n) => if_has_jump(jumps, n),
@@ -60,6 +62,14 @@ fn has_jump_behind(jumps: Jumps<'_>, near: Option<&str>, s: &Stmt) -> bool
         Stmt::Expr(_) => false,
         Stmt::Decl(_) => false,
     }
+}
+
+#[cycle(jumps)]
+fn label_has_jump(jumps: Jumps<'_>, near: Option<&Labels<'_>>, n: &LabeledStmt) -> bool
+    ensures { result ≡ escapes_behind (texts near.entry) (kinds jumps.entry) (labeled_tree stmt_tree n.now) }
+{
+    let labels = Labels::new(&n.label.sym, near);
+    has_jump_behind(jumps, Some(&labels), &n.body)
 }
 
 /// The same of one of some statements.
@@ -85,7 +95,7 @@ fn block_has_jump(jumps: Jumps<'_>, n: &BlockStmt) -> bool
 #[cycle(jumps)]
 #[tactic(auto, using(swc_ast::proofs::Equations::forms, crate::proofs::Nodes::if_escapes))]
 fn if_has_jump(jumps: Jumps<'_>, n: &IfStmt) -> bool
-    ensures { (near : Option Text) → result ≡ escapes_behind near (kinds jumps.entry) (if_tree n.now) }
+    ensures { (near : List Text) → result ≡ escapes_behind near (kinds jumps.entry) (if_tree n.now) }
 {
     has_jump(jumps, &n.cons) || option_has_jump(jumps, &n.alt)
 }

@@ -1,5 +1,5 @@
 -- What a `do` becomes whose test is false: its body, run once.
-use Rattle.std.specs.Prelude.{ℕ, ◌≡◌, Bool, true, false, List, Some, None}
+use Rattle.std.specs.Prelude.{ℕ, ◌≡◌, Bool, true, false, List, [], Some, None}
 use Rattle.swc_ast.specs.declared.Span.{Span}
 use Rattle.swc_ast.specs.Tree.{Block, Break, Continue, DoWhile, FnDecl, Tree, node, Forest, ε, ◌⊳◌}
 use Rattle.swc_ast.specs.Scope.{joined}
@@ -12,11 +12,11 @@ use Rattle.branch_rules.specs.Statements.{is_plain, gives_nothing}
 
 -- `break` and `continue` of a loop, and each `continue` with a label that stands in front of no loop inside: it may go on with this one
 abbrev pub looping : Kinds
-looping = record { breaks = true; continues = true; labelled = true; inside = None }
+looping = record { breaks = true; continues = true; labelled = true; inside = [] }
 
 -- each such labelled `continue`
 abbrev pub labelling : Kinds
-labelling = record { breaks = false; continues = false; labelled = true; inside = None }
+labelling = record { breaks = false; continues = false; labelled = true; inside = [] }
 
 -- an unlabelled `break` or `continue`
 abbrev pub is_jump : Tree → Bool

@@ -16,7 +16,7 @@ use Rattle.branch_rules.specs.Vars.{VarsOf}
 
 -- `break` of the switch
 abbrev pub breaking : Kinds
-breaking = record { breaks = true; continues = false; labelled = false; inside = None }
+breaking = record { breaks = true; continues = false; labelled = false; inside = [] }
 
 -- a case: its test, which for `default` is absent, and its statements
 pub record Clause : Type 0 where

@@ -1,9 +1,10 @@
 -- Jumps that may leave statements.
-use Rattle.std.proofs.Common.{◌≡◌, Bool, true, false, not, ◌&&◌, ◌||◌, Option, Some, None, refl, sym}
+use Rattle.std.proofs.Common.{◌≡◌, Bool, true, false, not, ◌&&◌, ◌||◌, List, [], ◌∷◌, Some, None, refl, sym}
 use Rattle.std.proofs.lemmas.Bool.{false≢true}
 use Rattle.swc_ast.specs.Tree.{Text, Fn, Arrow, Method, FnDecl, ExportDefaultFn, While, DoWhile, For, Labeled, Switch, Break, Continue, Tree, node, Forest, ε, ◌⊳◌}
+use Rattle.swc_ast.specs.Meaning.{has_label}
 use Rattle.swc_ast.specs.Scope.{joined}
-use Rattle.branch_rules.specs.Jumps.{Kinds, in_loop, in_switch, is_label, escapes_behind, escapes, some_escape}
+use Rattle.branch_rules.specs.Jumps.{Kinds, in_loop, in_switch, escapes_behind, escapes, some_escape}
 use Rattle.branch_rules.specs.Switches.{breaking}
 use Rattle.swc_static.specs.Jumps.{jumps_out, any_jumps_out}
 use Rattle.branch_rules.specs.Once.{all_functions}
@@ -23,16 +24,16 @@ abbrev only_labelled : Kinds → Kinds
 only_labelled g = in_loop g.inside g
 
 mutual
-  behind_less : (near : Option Text) (g : Kinds) (t : Tree) → escapes_behind near g t ≡ false → escapes_behind near (only_labelled g) t ≡ false
+  behind_less : (near : List Text) (g : Kinds) (t : Tree) → escapes_behind near g t ≡ false → escapes_behind near (only_labelled g) t ≡ false
   behind_less near g (node (Break None) ss cs) h = let p = neither (some_escape g cs) g.breaks h in both_false (some_escape (only_labelled g) cs) false (some_less g cs p.0) refl
   behind_less near g (node (Continue None) ss cs) h = let p = neither (some_escape g cs) g.continues h in both_false (some_escape (only_labelled g) cs) false (some_less g cs p.0) refl
-  behind_less near g (node (Continue (Some l)) ss cs) h = let p = neither (some_escape g cs) (g.labelled && not (is_label l g.inside)) h in both_false (some_escape (only_labelled g) cs) (g.labelled && not (is_label l g.inside)) (some_less g cs p.0) p.1
+  behind_less near g (node (Continue (Some l)) ss cs) h = let p = neither (some_escape g cs) (g.labelled && not (has_label l g.inside)) h in both_false (some_escape (only_labelled g) cs) (g.labelled && not (has_label l g.inside)) (some_less g cs p.0) p.1
   behind_less near g (node (Fn o) ss cs) h = refl
   behind_less near g (node Arrow ss cs) h = refl
   behind_less near g (node (FnDecl x) ss cs) h = refl
   behind_less near g (node (ExportDefaultFn o) ss cs) h = refl
   behind_less near g (node Method ss (k ⊳ cs)) h = behind_less g.inside g k h
-  behind_less near g (node (Labeled l) ss (t ⊳ ε)) h = behind_less (Some l) g t h
+  behind_less near g (node (Labeled l) ss (t ⊳ ε)) h = behind_less (l ∷ near) g t h
   behind_less near g (node (Labeled l) ss cs) h = some_less g cs h
   behind_less near g (node While ss (t ⊳ b ⊳ ε)) h = let p = neither (escapes g t) (escapes (in_loop near g) b) h in both_false (escapes (only_labelled g) t) (escapes (in_loop near g) b) (behind_less g.inside g t p.0) p.1
   behind_less near g (node DoWhile ss (b ⊳ t ⊳ ε)) h = let p = neither (escapes (in_loop near g) b) (escapes g t) h in both_false (escapes (in_loop near g) b) (escapes (only_labelled g) t) p.0 (behind_less g.inside g t p.1)
@@ -73,7 +74,7 @@ mutual
   none_out_all (t ⊳ ts) = both_false (jumps_out false false t) (any_jumps_out false false ts) (none_out t) (none_out_all ts)
 
 mutual
-  behind_out : (near : Option Text) (t : Tree) → escapes_behind near breaking t ≡ false → jumps_out true false t ≡ false
+  behind_out : (near : List Text) (t : Tree) → escapes_behind near breaking t ≡ false → jumps_out true false t ≡ false
   behind_out near (node (Break None) ss cs) h = absurd (false≢true (sym (neither (some_escape breaking cs) true h).1))
   behind_out near (node (Continue None) ss cs) h = breaks_out cs (neither (some_escape breaking cs) false h).0
   behind_out near (node (Continue (Some l)) ss cs) h = breaks_out cs (neither (some_escape breaking cs) false h).0
@@ -82,7 +83,7 @@ mutual
   behind_out near (node (FnDecl x) ss cs) h = none_out_all cs
   behind_out near (node (ExportDefaultFn o) ss cs) h = none_out_all cs
   behind_out near (node Method ss cs) h = none_out_all cs
-  behind_out near (node (Labeled l) ss (t ⊳ ε)) h = both_false (jumps_out true false t) false (behind_out (Some l) t h) refl
+  behind_out near (node (Labeled l) ss (t ⊳ ε)) h = both_false (jumps_out true false t) false (behind_out (l ∷ near) t h) refl
   behind_out near (node (Labeled l) ss cs) h = breaks_out cs h
   behind_out near (node While ss cs) h = none_out_all cs
   behind_out near (node DoWhile ss cs) h = none_out_all cs
@@ -92,7 +93,7 @@ mutual
 
   pub breaks_out : (ts : Forest) → some_escape breaking ts ≡ false → any_jumps_out true false ts ≡ false
   breaks_out ε h = refl
-  breaks_out (t ⊳ ts) h = let p = neither (escapes breaking t) (some_escape breaking ts) h in both_false (jumps_out true false t) (any_jumps_out true false ts) (behind_out None t p.0) (breaks_out ts p.1)
+  breaks_out (t ⊳ ts) h = let p = neither (escapes breaking t) (some_escape breaking ts) h in both_false (jumps_out true false t) (any_jumps_out true false ts) (behind_out [] t p.0) (breaks_out ts p.1)
 
 pub break_out : (t : Tree) → escapes breaking t ≡ false → jumps_out true false t ≡ false
-break_out t h = behind_out None t h
+break_out t h = behind_out [] t h

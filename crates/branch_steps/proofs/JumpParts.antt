@@ -10,7 +10,7 @@ use Rattle.swc_ast.specs.Operators.{truthy, is_nullish, to_text, to_number, stri
 use Rattle.swc_ast.specs.Scope.{Declared, case_statements}
 use Rattle.swc_ast.specs.Meaning.{◌>>=◌, gives, leaves, in_core, take_reply, ask, checked_type, is_type_name, is_unresolved, read, read_host, read_bound, held_value, cell_at, write, write_host, write_bound, write_cell, is_initialised, initialise, initialise_bound, initialise_cell, Scope, numbered, in_scope, token_text, get, put, make_value, read_this, get_at, put_at, shape0, shape1, shape2, shape3, shape1+, shape2+, all_values, in_turn, run_all, spread_items, item_values, array_items, merged, object_fields, one_field, short_circuits, shortened, operate, assign, update, in_list_scope, plain, has_label, after_jump, turn, turns, do_turns, copies, at_label, at_break, Case, cases_of, bodies_from, default_bodies, chosen, selected, switch, is_param, handled, resume, finally, try_catch, declare, copied_names, for_loop, shape_if, shape_return, template_text, type_of_name}
 use Rattle.expr_steps.proofs.Runs.{bind_chain}
-use Rattle.branch_rules.specs.Jumps.{Kinds, in_loop, in_switch, is_label}
+use Rattle.branch_rules.specs.Jumps.{Kinds, in_loop, in_switch}
 use Rattle.branch_steps.proofs.Leaving.{Stays, Keeps}
 use Rattle.branch_steps.proofs.Relabelled.{relabel, Follows, copies_follow, followed, Covered, no_nearer}
 
@@ -293,17 +293,17 @@ module _ (g : Kinds) where
   at_break_stays Outside h = tt
   at_break_stays Cut h = tt
 
-  pub aimed_stays : (b : Bool) (l : List ℕ) (s : State) → (b ≡ false → (g.labelled && not (is_label l g.inside)) ≡ false) → Stays g (after_jump (if b then Some true else None) (Continued (Some l)) s)
+  pub aimed_stays : (b : Bool) (l : List ℕ) (s : State) → (b ≡ false → (g.labelled && not (has_label l g.inside)) ≡ false) → Stays g (after_jump (if b then Some true else None) (Continued (Some l)) s)
   aimed_stays true l s h = tt
   aimed_stays false l s h = h refl
 
-  pub turn_stays : (near : Option Text) (labels : List (List ℕ)) → Covered near g.inside labels → (o : Outcome Value) → Stays (in_loop near g) o → Stays g (turn labels o)
+  pub turn_stays : (near : List Text) (labels : List (List ℕ)) → Covered near g.inside labels → (o : Outcome Value) → Stays (in_loop near g) o → Stays g (turn labels o)
   unfolding turn
   turn_stays near labels k (Done v s) h = tt
   turn_stays near labels k (Jumps (Broken None) s) h = tt
   turn_stays near labels k (Jumps (Broken (Some l)) s) h = refl
   turn_stays near labels k (Jumps (Continued None) s) h = tt
-  turn_stays near labels k (Jumps (Continued (Some l)) s) h = aimed_stays (has_label l labels) l s (no_nearer g.labelled (has_label l labels) (is_label l near) (is_label l g.inside) (k.by l) h)
+  turn_stays near labels k (Jumps (Continued (Some l)) s) h = aimed_stays (has_label l labels) l s (no_nearer g.labelled (has_label l labels) (has_label l near) (has_label l g.inside) (k.by l) h)
   turn_stays near labels k (Jumps (Returned v) s) h = refl
   turn_stays near labels k (Jumps (Thrown v) s) h = refl
   turn_stays near labels k Outside h = tt
@@ -365,7 +365,7 @@ module _ (g : Kinds) where
   unfolding copies in_scope
   copies_keep names c = record { by = λ s. tt }
 
-  pub turns_keep : (near : Option Text) (n : ℕ) (t b u : Meaning) (next : Context → Run Context) → ((c : Context) → Keeps g (t c)) → ((c : Context) → Keeps (in_loop near g) (b c)) → ((c : Context) → Keeps g (next c)) → Follows next → ((c : Context) → Keeps g (u c)) → (ls : List (List ℕ)) → Covered near g.inside ls → (c : Context) → Keeps g (turns n t b next u (relabel ls c))
+  pub turns_keep : (near : List Text) (n : ℕ) (t b u : Meaning) (next : Context → Run Context) → ((c : Context) → Keeps g (t c)) → ((c : Context) → Keeps (in_loop near g) (b c)) → ((c : Context) → Keeps g (next c)) → Follows next → ((c : Context) → Keeps g (u c)) → (ls : List (List ℕ)) → Covered near g.inside ls → (c : Context) → Keeps g (turns n t b next u (relabel ls c))
   unfolding turns
   turns_keep near zero t b u next ht hb hn hf hu ls k c = keeps_then (ht (plain c)) (λ v. keeps_if (truthy v) keeps_cut (keeps_gives Undefined))
   turns_keep near (suc n) t b u next ht hb hn hf hu ls k c =
@@ -375,7 +375,7 @@ module _ (g : Kinds) where
       (keeps_gives Undefined)))
       (keeps_gives Undefined))
 
-  pub do_turns_keep : (near : Option Text) (n : ℕ) (b t : Meaning) → ((c : Context) → Keeps (in_loop near g) (b c)) → ((c : Context) → Keeps g (t c)) → (c : Context) → Covered near g.inside c.labels → Keeps g (do_turns n b t c)
+  pub do_turns_keep : (near : List Text) (n : ℕ) (b t : Meaning) → ((c : Context) → Keeps (in_loop near g) (b c)) → ((c : Context) → Keeps g (t c)) → (c : Context) → Covered near g.inside c.labels → Keeps g (do_turns n b t c)
   unfolding do_turns
   do_turns_keep near zero b t hb ht c k = keeps_cut
   do_turns_keep near (suc n) b t hb ht c k =
@@ -388,7 +388,7 @@ module _ (g : Kinds) where
   unfolding in_scope
   env_keeps binds cells m c h = record { by = λ s. (h (numbered binds c.env s)).by _ }
 
-  pub for_keeps : (near : Option Text) (n : ℕ) (head : Tree) (i t u b : Meaning) → ((c : Context) → Keeps g (i c)) → ((c : Context) → Keeps g (t c)) → ((c : Context) → Keeps g (u c)) → ((c : Context) → Keeps (in_loop near g) (b c)) → (c : Context) → Covered near g.inside c.labels → Keeps g (for_loop n head i t u b c)
+  pub for_keeps : (near : List Text) (n : ℕ) (head : Tree) (i t u b : Meaning) → ((c : Context) → Keeps g (i c)) → ((c : Context) → Keeps g (t c)) → ((c : Context) → Keeps g (u c)) → ((c : Context) → Keeps (in_loop near g) (b c)) → (c : Context) → Covered near g.inside c.labels → Keeps g (for_loop n head i t u b c)
   unfolding for_loop
   for_keeps near n head i t u b hi ht hu hb c k = env_keeps _ _ _ c (λ e. keeps_then (hi (plain (record c { env = e }))) (λ v.
       keeps_path (followed (copies (copied_names head)) (copies_follow (copied_names head)) c.labels (record c { env = e }) (λ d. turns n t b (copies (copied_names head)) u d))

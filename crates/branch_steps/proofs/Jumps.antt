@@ -1,5 +1,5 @@
 -- A tree from which no such jump escapes ends by none.
-use Rattle.std.proofs.Common.{◌≡◌, ℕ, zero, suc, Bool, true, false, ◌&&◌, List, ◌∷◌, Option, Some, None, refl}
+use Rattle.std.proofs.Common.{◌≡◌, ℕ, zero, suc, Bool, true, false, ◌&&◌, List, ◌∷◌, Some, None, refl}
 use Rattle.std.proofs.lemmas.Bool.{false≢true}
 use Rattle.swc_ast.specs.declared.Span.{Span}
 use Rattle.swc_ast.specs.declared.UnaryOp.TheVariants.{Delete}
@@ -119,7 +119,7 @@ module _ (mark n : ℕ) (call : Caller) (kept : (g : Kinds) (f this : Value) (ar
   mutual
     unfolding eval evals act
 
-    pub behind_keeps : (t : Tree) (near : Option Text) (g : Kinds) → escapes_behind near g t ≡ false → (c : Context) → Covered near g.inside c.labels → Keeps g (eval mark n call t c)
+    pub behind_keeps : (t : Tree) (near : List Text) (g : Kinds) → escapes_behind near g t ≡ false → (c : Context) → Covered near g.inside c.labels → Keeps g (eval mark n call t c)
     behind_keeps (node (Break None) ss ε) near g e c h = record { by = λ s. e }
     behind_keeps (node (Break None) ss (t ⊳ ts)) near g e c h = keeps_leaves g
     behind_keeps (node (Break (Some l)) ss ε) near g e c h = record { by = λ s. refl }
@@ -140,7 +140,7 @@ module _ (mark n : ℕ) (call : Caller) (kept : (g : Kinds) (f this : Value) (ar
     behind_keeps (node DoWhile ss _) near g e c h = keeps_leaves g
     behind_keeps (node For ss (i ⊳ t ⊳ u ⊳ b ⊳ ε)) near g e c h = for_keeps g near n (first_tree (i ⊳ t ⊳ u ⊳ b ⊳ ε)) (eval mark n call i) (eval mark n call t) (eval mark n call u) (eval mark n call b) (λ k. behind_keeps i g.inside g (or_left _ _ e) k (covered_itself g.inside k.labels)) (λ k. behind_keeps t g.inside g (or_left _ _ (or_right _ _ e)) k (covered_itself g.inside k.labels)) (λ k. behind_keeps u g.inside g (or_left (escapes g u) _ (or_right (escapes g t) _ (or_right (escapes g i) _ e))) k (covered_itself g.inside k.labels)) (λ d. behind_keeps b near (in_loop near g) (or_right (escapes g u) _ (or_right (escapes g t) _ (or_right (escapes g i) _ e))) d (covered_itself near d.labels)) c h
     behind_keeps (node For ss _) near g e c h = keeps_leaves g
-    behind_keeps (node (Labeled l) ss (t ⊳ ε)) near g e c h = record { by = λ s. at_label_stays g l _ ((behind_keeps t (Some l) g e (record c { labels = l ∷ c.labels }) (covered_label l g.inside c.labels)).by s) }
+    behind_keeps (node (Labeled l) ss (t ⊳ ε)) near g e c h = record { by = λ s. at_label_stays g l _ ((behind_keeps t (l ∷ near) g e (record c { labels = l ∷ c.labels }) (covered_label l h)).by s) }
     behind_keeps (node (Labeled l) ss _) near g e c h = keeps_leaves g
     behind_keeps (node (Switch ds) ss ε) near g e c h = keeps_leaves g
     behind_keeps (node (Switch ds) ss (d ⊳ cs)) near g e c h = switch_keeps g (d ⊳ cs) ds (evals mark n call cs) (eval mark n call d) (λ k. behind_keeps d g.inside g (or_left _ _ e) k (covered_itself g.inside k.labels)) (trees_keep cs (in_switch g) (or_right _ _ e)) c

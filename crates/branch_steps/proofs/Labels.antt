@@ -11,7 +11,7 @@ use Rattle.swc_ast.specs.Operators.{truthy, to_text, strict_equal, prim}
 use Rattle.swc_ast.specs.Scope.{case_statements, default_name}
 use Rattle.swc_ast.specs.Meaning.{◌>>=◌, gives, in_core, is_unresolved, read, write, initialise, Scope, numbered, in_scope, get, put, Caller, get_at, put_at, shape0, shape1, shape2, shape3, shape1+, shape2+, all_values, in_turn, run_all, item_values, array_items, merged, object_fields, key_text, operate, operator_of, assign, in_list_scope, plain, has_label, after_jump, turn, turns, do_turns, copies, at_label, at_break, Case, cases_of, bodies_from, default_bodies, chosen, selected, switch, handled, resume, finally, try_catch, declare, copied_names, first_tree, for_loop, shape_if, shape_return, template_text, type_of_name, act, eval, evals}
 use Rattle.expr_steps.proofs.Runs.{bind_same, bind_chain}
-use Rattle.branch_rules.specs.Jumps.{Kinds, in_loop, is_label, escapes_behind, escapes, some_escape}
+use Rattle.branch_rules.specs.Jumps.{Kinds, in_loop, escapes_behind, escapes, some_escape}
 use Rattle.branch_steps.proofs.Leaving.{Stays, Keeps}
 use Rattle.branch_rules.specs.Once.{labelling}
 use Rattle.branch_steps.proofs.Loops.{given}
@@ -158,20 +158,20 @@ or_false : (b : Bool) → (b || false) ≡ true → b ≡ true
 or_false true h = refl
 or_false false h = absurd (false≢true h)
 
-turn_labels : (near : Option Text) (ls ks : List (List ℕ)) → Covered near None ls → Covered near None ks → (o : Outcome Value) → Stays (in_loop near labelling) o → turn ls o ≡ turn ks o
+turn_labels : (near : List Text) (ls ks : List (List ℕ)) → Covered near [] ls → Covered near [] ks → (o : Outcome Value) → Stays (in_loop near labelling) o → turn ls o ≡ turn ks o
 unfolding turn
 turn_labels near ls ks f g (Done v s) h = refl
 turn_labels near ls ks f g (Jumps (Broken None) s) h = refl
 turn_labels near ls ks f g (Jumps (Broken (Some l)) s) h = refl
 turn_labels near ls ks f g (Jumps (Continued None) s) h = refl
-turn_labels near ls ks f g (Jumps (Continued (Some l)) s) h = ap (λ b. after_jump (if b then Some true else None) (Continued (Some l)) s) (or_false (has_label l ls) (f.by l (not_not (is_label l near) h)) ∙ sym (or_false (has_label l ks) (g.by l (not_not (is_label l near) h))))
+turn_labels near ls ks f g (Jumps (Continued (Some l)) s) h = ap (λ b. after_jump (if b then Some true else None) (Continued (Some l)) s) (or_false (has_label l ls) (f.by l (not_not (has_label l near) h)) ∙ sym (or_false (has_label l ks) (g.by l (not_not (has_label l near) h))))
 turn_labels near ls ks f g (Jumps (Returned v) s) h = refl
 turn_labels near ls ks f g (Jumps (Thrown v) s) h = refl
 turn_labels near ls ks f g Outside h = refl
 turn_labels near ls ks f g Cut h = refl
 
 -- loops under labels that both cover the one in front
-module _ (near : Option Text) (ls ks : List (List ℕ)) (covers : Covered near None ls) (still : Covered near None ks) where
+module _ (near : List Text) (ls ks : List (List ℕ)) (covers : Covered near [] ls) (still : Covered near [] ks) where
   turns_same : (n : ℕ) (t b u : Meaning) (next : Context → Run Context) → ((c : Context) → Keeps (in_loop near labelling) (b c)) → Follows next → (c : Context) → turns n t b next u (relabel ls c) ≡ turns n t b next u (relabel ks c)
   unfolding turns
   turns_same zero t b u next hb hn c = refl
@@ -317,7 +317,7 @@ module _ (mark n : ℕ) (call : Caller) (kept : (g : Kinds) (f this : Value) (ar
   mutual
     unfolding eval evals act
 
-    behind_same : (t : Tree) (near : Option Text) → escapes_behind near labelling t ≡ false → (ls ks : List (List ℕ)) → Covered near None ls → Covered near None ks → (c : Context) → eval mark n call t (relabel ls c) ≡ eval mark n call t (relabel ks c)
+    behind_same : (t : Tree) (near : List Text) → escapes_behind near labelling t ≡ false → (ls ks : List (List ℕ)) → Covered near [] ls → Covered near [] ks → (c : Context) → eval mark n call t (relabel ls c) ≡ eval mark n call t (relabel ks c)
     behind_same (node (Break o) ss ε) near e ls ks f g c = refl
     behind_same (node (Break o) ss (t ⊳ ts)) near e ls ks f g c = refl
     behind_same (node (Continue o) ss ε) near e ls ks f g c = refl
@@ -326,7 +326,7 @@ module _ (mark n : ℕ) (call : Caller) (kept : (g : Kinds) (f this : Value) (ar
     behind_same (node Arrow ss cs) near e ls ks f g c = refl
     behind_same (node (FnDecl x) ss cs) near e ls ks f g c = refl
     behind_same (node (ExportDefaultFn o) ss cs) near e ls ks f g c = refl
-    behind_same (node Method ss (k ⊳ p ⊳ b ⊳ ε)) near e ls ks f g c = same_then (behind_same k None e ls ks (covered_itself None ls) (covered_itself None ks) c) (λ w. refl)
+    behind_same (node Method ss (k ⊳ p ⊳ b ⊳ ε)) near e ls ks f g c = same_then (behind_same k [] e ls ks (covered_itself [] ls) (covered_itself [] ks) c) (λ w. refl)
     behind_same (node Method ss _) near e ls ks f g c = refl
     behind_same (node While ss (t ⊳ b ⊳ ε)) near e ls ks f g c = turns_same near ls ks f g n (eval mark n call t) (eval mark n call b) (λ d. gives Undefined) gives (tree_keeps mark n call kept b (in_loop near labelling) (or_right _ _ e)) gives_follow c
     behind_same (node While ss _) near e ls ks f g c = refl
@@ -334,17 +334,17 @@ module _ (mark n : ℕ) (call : Caller) (kept : (g : Kinds) (f this : Value) (ar
     behind_same (node DoWhile ss _) near e ls ks f g c = refl
     behind_same (node For ss (i ⊳ t ⊳ u ⊳ b ⊳ ε)) near e ls ks f g c = for_same near ls ks f g n (first_tree (i ⊳ t ⊳ u ⊳ b ⊳ ε)) (eval mark n call i) (eval mark n call t) (eval mark n call u) (eval mark n call b) (tree_keeps mark n call kept b (in_loop near labelling) (or_right (escapes labelling u) _ (or_right (escapes labelling t) _ (or_right (escapes labelling i) _ e)))) c
     behind_same (node For ss _) near e ls ks f g c = refl
-    behind_same (node (Labeled l) ss (t ⊳ ε)) near e ls ks f g c = fun_ext (λ s. ap (λ (r : Run Value). at_label l (r s)) (behind_same t (Some l) e (l ∷ ls) (l ∷ ks) (covered_label l None ls) (covered_label l None ks) c))
+    behind_same (node (Labeled l) ss (t ⊳ ε)) near e ls ks f g c = fun_ext (λ s. ap (λ (r : Run Value). at_label l (r s)) (behind_same t (l ∷ near) e (l ∷ ls) (l ∷ ks) (covered_label l f) (covered_label l g) c))
     behind_same (node (Labeled l) ss _) near e ls ks f g c = refl
     behind_same (node (Switch ds) ss ε) near e ls ks f g c = refl
     behind_same (node (Switch ds) ss (d ⊳ cs)) near e ls ks f g c =
-        let p : Steady (eval mark n call d) = λ js k. behind_same d None (or_left _ _ e) js k.labels (covered_itself None js) (covered_itself None k.labels) k in
+        let p : Steady (eval mark n call d) = λ js k. behind_same d [] (or_left _ _ e) js k.labels (covered_itself [] js) (covered_itself [] k.labels) k in
         switch_same (d ⊳ cs) ds (evals mark n call cs) (eval mark n call d) p (trees_same cs (or_right _ _ e)) ls c ∙ sym (switch_same (d ⊳ cs) ds (evals mark n call cs) (eval mark n call d) p (trees_same cs (or_right _ _ e)) ks c)
     behind_same (node l ss cs) near e ls ks f g c = act_same l ss cs (evals mark n call cs) (trees_same cs e) refl ls c ∙ sym (act_same l ss cs (evals mark n call cs) (trees_same cs e) refl ks c)
 
     trees_same : (ts : Forest) → some_escape labelling ts ≡ false → Each (evals mark n call ts)
     trees_same ε e = tt
-    trees_same (t ⊳ ts) e = ((λ js k. behind_same t None (or_left _ _ e) js k.labels (covered_itself None js) (covered_itself None k.labels) k), trees_same ts (or_right _ _ e))
+    trees_same (t ⊳ ts) e = ((λ js k. behind_same t [] (or_left _ _ e) js k.labels (covered_itself [] js) (covered_itself [] k.labels) k), trees_same ts (or_right _ _ e))
 
   pub tree_same : (t : Tree) → escapes labelling t ≡ false → Steady (eval mark n call t)
-  tree_same t e ls c = behind_same t None e ls c.labels (covered_itself None ls) (covered_itself None c.labels) c
+  tree_same t e ls c = behind_same t [] e ls c.labels (covered_itself [] ls) (covered_itself [] c.labels) c

@@ -1,12 +1,11 @@
 -- Labels of a context: a loop goes on under the labels that it began with, and they cover the label in front of it.
-use Rattle.std.proofs.Common.{◌≡◌, Bool, true, false, not, ◌&&◌, ◌||◌, List, ◌∷◌, Option, Some, ℕ, refl, ap, ◌∙◌}
-use Rattle.std.proofs.lemmas.Bool.{or_left, or_right, true≢false}
+use Rattle.std.proofs.Common.{◌≡◌, Bool, true, false, not, ◌&&◌, ◌||◌, List, ◌∷◌, ℕ, refl, ap, ◌∙◌, bytes_eq}
+use Rattle.std.proofs.lemmas.Bool.{or_right, true≢false}
 use Rattle.swc_ast.specs.Tree.{Text}
 use Rattle.swc_ast.specs.Value.{Value, Run, and_then, Context}
 use Rattle.swc_ast.specs.Scope.{Declared}
 use Rattle.swc_ast.specs.Meaning.{◌>>=◌, gives, in_scope, copies, has_label}
 use Rattle.expr_steps.proofs.Runs.{bind_same, bind_chain}
-use Rattle.branch_rules.specs.Jumps.{is_label}
 use Rattle.branch_steps.proofs.Loops.{given}
 
 abbrev pub relabel : List (List ℕ) → Context → Context
@@ -28,15 +27,19 @@ gives_follow ls c = refl
 pub followed : (next : Context → Run Context) → Follows next → (ls : List (List ℕ)) (c : Context) (k : Context → Run Value) → (next (relabel ls c) >>= k) ≡ (next c >>= λ d. k (relabel ls d))
 followed next h ls c k = ap (λ (m : Run Context). m >>= k) (h ls c) ∙ bind_chain (next c) (λ d. gives (relabel ls d)) k ∙ bind_same (next c) (λ d. given (relabel ls d) k)
 
--- a label right in front of a loop is among the context's labels, or it is that of a loop round it which is looked into
-pub record Covered (near inside : Option Text) (ls : List (List ℕ)) : Type 0 where
-  pub by : (l : Text) → is_label l near ≡ true → (has_label l ls || is_label l inside) ≡ true
+-- labels that stand in front of a loop are among the context's, or they are those of loops round it which are looked into
+pub record Covered (near inside : List Text) (ls : List (List ℕ)) : Type 0 where
+  pub by : (l : Text) → has_label l near ≡ true → (has_label l ls || has_label l inside) ≡ true
 
-pub covered_itself : (near : Option Text) (ls : List (List ℕ)) → Covered near near ls
-covered_itself near ls = record { by = λ l h. or_right (has_label l ls) (is_label l near) h }
+pub covered_itself : (near : List Text) (ls : List (List ℕ)) → Covered near near ls
+covered_itself near ls = record { by = λ l h. or_right (has_label l ls) (has_label l near) h }
 
-pub covered_label : (l : Text) (inside : Option Text) (ls : List (List ℕ)) → Covered (Some l) inside (l ∷ ls)
-covered_label l inside ls = record { by = λ m h. or_left (is_label m (Some l) || has_label m ls) (is_label m inside) (or_left (is_label m (Some l)) (has_label m ls) h) }
+either_covered : (a n b i : Bool) → (n ≡ true → (b || i) ≡ true) → (a || n) ≡ true → ((a || b) || i) ≡ true
+either_covered true n b i f h = refl
+either_covered false n b i f h = f h
+
+pub covered_label : (l : Text) {near inside : List Text} {ls : List (List ℕ)} → Covered near inside ls → Covered (l ∷ near) inside (l ∷ ls)
+covered_label l {near} {inside} {ls} k = record { by = λ m h. either_covered (bytes_eq m l) (has_label m near) (has_label m ls) (has_label m inside) (k.by m) h }
 
 -- a `continue` that leaves a loop isn't aimed at one round it which is looked into
 pub no_nearer : (k b n i : Bool) → (n ≡ true → (b || i) ≡ true) → (k && not n) ≡ false → b ≡ false → (k && not i) ≡ false

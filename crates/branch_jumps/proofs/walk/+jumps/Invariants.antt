@@ -12,6 +12,9 @@ decreases-has_jump l = 8 * goal.size-has_jump l + 1
 abbrev pub decreases-has_jump_behind : goal.decreases-has_jump_behind
 decreases-has_jump_behind l = 8 * goal.size-has_jump_behind l
 
+abbrev pub decreases-label_has_jump : goal.decreases-label_has_jump
+decreases-label_has_jump l = 8 * goal.size-label_has_jump l + 3
+
 abbrev pub decreases-have_jumps : goal.decreases-have_jumps
 decreases-have_jumps l = 8 * goal.size-have_jumps l + 2
 
