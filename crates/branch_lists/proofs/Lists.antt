@@ -170,6 +170,11 @@ item_one : (x : ModuleItem) → IsOne (item_tree x)
 item_one (items.ModuleDecl d) = ap (λ b. b || is_statement (item_tree (items.ModuleDecl d))) (stays_at d)
 item_one (items.Stmt s) = one_at (stmt_tree s) (shape s)
 
+-- statements by themselves
+pub statements_alone : (xs : List Stmt) → all_statements (list_trees stmt_tree xs) ≡ true
+statements_alone [] = refl
+statements_alone (x ∷ xs) = ap₂ (λ a b. a && b) (one_at (stmt_tree x) (shape x)) (statements_alone xs)
+
 all_one : {X : Type 0} (f : X → ModuleItem) (xs : List X) → all_statements (trees f xs) ≡ true
 all_one f [] = refl
 all_one f (x ∷ xs) = ap₂ (λ a b. a && b) (item_one (f x)) (all_one f xs)

@@ -1,4 +1,4 @@
--- What the dead-branch remover does at a node whose children it has done, and at lists.
+-- What the dead-branch remover does at a node, in front of its children and when it has done them, and at lists.
 use Rattle.std.specs.Prelude.{ℕ, ◌≡◌, Bool, true, false, not, ◌&&◌, List}
 use Rattle.swc_ast.specs.declared.Span.{Span}
 use Rattle.swc_ast.specs.Redex.{own_redex, list_redex, is_delete}
@@ -14,7 +14,7 @@ use Rattle.branch_rules.specs.Expressions.{ExpressionStep}
 use Rattle.branch_rules.specs.Lists.{Tidied, kept_names}
 use Rattle.branch_rules.specs.Once.{DoStep}
 use Rattle.branch_rules.specs.Statements.{as_statement, StatementStep}
-use Rattle.branch_rules.specs.Switches.{SwitchStep}
+use Rattle.branch_rules.specs.Switches.{ShedStep, SwitchStep}
 
 -- some statements in the place of one
 pub data BranchStep (mark : ℕ) : Tree → Forest → Type 0 where
@@ -40,4 +40,4 @@ Rests t = kind_at statement_redex t ≡ false
 
 -- The operand of `delete` isn't entered.
 abbrev pub remove_pass : ℕ → Pass
-remove_pass mark = record { opens = λ t u. ⊥; steps = Removes mark; rests = Rests; tidies = λ l ts us. Tidied (kept_names l ts) ts us; tidy = λ l ts. list_redex ts ≡ false; skips = λ t. is_delete (label_of t) ≡ true }
+remove_pass mark = record { opens = ShedStep mark; steps = Removes mark; rests = Rests; tidies = λ l ts us. Tidied (kept_names l ts) ts us; tidy = λ l ts. list_redex ts ≡ false; skips = λ t. is_delete (label_of t) ≡ true }

@@ -1,7 +1,7 @@
--- What a `switch` becomes, its children being walked already. The spans of a new node are the caller's.
+-- What a `switch` becomes: in front of its children, and when they are walked. The spans of a new node are the caller's.
 use Rattle.std.specs.Prelude.{ℕ, ◌<◌, ◌≡◌, Bool, true, false, not, ◌&&◌, ◌||◌, if◌then◌else◌, List, [], ◌∷◌, ◌++◌, Some, None}
 use Rattle.swc_ast.specs.declared.Span.{Span}
-use Rattle.swc_ast.specs.Tree.{NumLit, StrLit, BoolLit, NullLit, Read, Break, FnDecl, CaseBody, Block, Switch, Tree, node, Forest, ε, ◌⊳◌}
+use Rattle.swc_ast.specs.Tree.{NumLit, StrLit, BoolLit, NullLit, Read, Break, VarDecl, FnDecl, CaseBody, Block, Switch, Tree, node, Forest, ε, ◌⊳◌}
 use Rattle.swc_ast.specs.Value.{Value}
 use Rattle.swc_ast.specs.Operators.{prim, strict_equal}
 use Rattle.swc_ast.specs.Scope.{joined, vars_all, declared}
@@ -10,7 +10,9 @@ use Rattle.expr_rules.specs.Values.{value_of}
 use Rattle.swc_utils.specs.Pure.{pure, no_trees}
 use Rattle.swc_static.specs.Drawn.{is_expression}
 use Rattle.swc_static.specs.Names.{label_of}
+use Rattle.swc_static.specs.Shaped.{is_lexical}
 use Rattle.branch_rules.specs.Jumps.{Kinds, escapes, some_escape}
+use Rattle.branch_rules.specs.Lists.{all_statements}
 use Rattle.branch_rules.specs.Statements.{Alone, as_statement, is_absent, all_plain, all_give_nothing}
 use Rattle.branch_rules.specs.Vars.{VarsOf}
 
@@ -89,11 +91,11 @@ nothing_runs (k ∷ ks) = starts_with_break k.body && nothing_runs ks
 
 -- a literal or a name; of `undefined` and `NaN` the value is known
 abbrev pub is_fixed : Tree → Bool
-is_fixed (node (NumLit z) ss cs) = true
-is_fixed (node (StrLit t) ss cs) = true
-is_fixed (node (BoolLit b) ss cs) = true
-is_fixed (node NullLit ss cs) = true
-is_fixed (node (Read x) ss cs) = true
+is_fixed (node (NumLit z) ss ε) = true
+is_fixed (node (StrLit t) ss ε) = true
+is_fixed (node (BoolLit b) ss ε) = true
+is_fixed (node NullLit ss ε) = true
+is_fixed (node (Read x) ss ε) = true
 is_fixed _ = false
 
 -- one of a known value
@@ -107,6 +109,23 @@ pub data Passed (mark : ℕ) (v : Value) : List Clause → Type 0 where
   unequal : (k : Clause) (w : Value) {ks : List Clause} → k.is_default ≡ false → pure mark k.test ≡ true → FixedValue mark k.test w → strict_equal (prim v) (prim w) ≡ Some false → Passed mark v ks → Passed mark v (k ∷ ks)
   over_default : (k : Clause) {ks : List Clause} → k.is_default ≡ true → Passed mark v ks → Passed mark v (k ∷ ks)
 
+-- a value that is known, and a test that it is found equal or unequal to
+pub record Tested (mark : ℕ) (v : Value) (t : Tree) (equal : Bool) : Type 0 where
+  pub value : Value
+  pub pure_test : pure mark t ≡ true
+  pub known : FixedValue mark t value
+  pub compared : strict_equal (prim v) (prim value) ≡ Some equal
+
+-- a case whose test a value meets
+pub record IsMet (mark : ℕ) (v : Value) (k : Clause) : Type 0 where
+  pub no_default : k.is_default ≡ false
+  pub met : Tested mark v k.test true
+
+-- cases that a value passes in front of the one that it selects, and this and those behind it
+pub data Selects (mark : ℕ) (v : Value) : List Clause → List Clause → Type 0 where
+  by_test : (fs : List Clause) (k : Clause) (ks : List Clause) → Passed mark v fs → IsMet mark v k → Selects mark v fs (k ∷ ks)
+  by_default : (fs : List Clause) (k : Clause) (ks : List Clause) → Passed mark v (fs ++ k ∷ ks) → no_default fs ≡ true → k.is_default ≡ true → Selects mark v fs (k ∷ ks)
+
 -- function declarations among some statements
 abbrev pub functions_of : Forest → Forest
 functions_of ε = ε
@@ -118,6 +137,48 @@ abbrev pub others_of : Forest → Forest
 others_of ε = ε
 others_of (node (FnDecl x) ss cs ⊳ ts) = others_of ts
 others_of (t ⊳ ts) = t ⊳ others_of ts
+
+-- a declaration of names by `let` or `const`
+abbrev pub is_shed : Tree → Bool
+is_shed (node (VarDecl k) ss (d ⊳ ds)) = is_lexical k
+is_shed _ = false
+
+-- statements without those
+abbrev pub unlet : Forest → Forest
+unlet ε = ε
+unlet (t ⊳ ts) = if is_shed t then unlet ts else t ⊳ unlet ts
+
+-- whether there are some
+abbrev pub has_shed : Forest → Bool
+has_shed ε = false
+has_shed (t ⊳ ts) = is_shed t || has_shed ts
+
+-- whether one of some statements ends their list
+abbrev pub has_stopper : Forest → Bool
+has_stopper ε = false
+has_stopper (t ⊳ ts) = is_stopper t || has_stopper ts
+
+-- a case without its `let` and `const`
+abbrev pub unlet_case : Clause → Clause
+unlet_case k = record { is_default = k.is_default; test = k.test; spans = k.spans; body = unlet k.body }
+
+-- cases of which some that declare no function lose `let` and `const`; the truth value says whether one does
+pub data Sheds : Bool → List Clause → List Clause → Type 0 where
+  no_case : Sheds false [] []
+  case_stays : (k : Clause) {b : Bool} {ks ls : List Clause} → Sheds b ks ls → Sheds b (k ∷ ks) (k ∷ ls)
+  case_sheds : (k : Clause) {b : Bool} {ks ls : List Clause} → functions_of k.body ≡ ε → all_statements k.body ≡ true → has_shed k.body ≡ true → Sheds b ks ls → Sheds true (k ∷ ks) (unlet_case k ∷ ls)
+
+-- Cases that are run where the first of them is selected, and those behind them that are not: one that is run ends with a stopper.
+pub data Ends : List Clause → List Clause → Type 0 where
+  all_run : (ks : List Clause) → Ends ks []
+  some_run : (ks ls : List Clause) → has_stopper (bodies_of ks) ≡ true → Ends ks ls
+
+-- What a `switch` becomes in front of its children: cases that no run comes to lose their `let` and `const`.
+pub data ShedStep (mark : ℕ) : Tree → Tree → Type 0 where
+  -- leading cases are known to be passed
+  leading_shed : (ss : List Span) (d : Tree) (v : Value) (fs gs ks : List Clause) → FixedValue mark d v → Passed mark v fs → no_default fs ≡ true → Sheds true fs gs → ShedStep mark (switch_tree ss d (fs ++ ks)) (switch_tree ss d (gs ++ ks))
+  -- a case is known to be selected: those in front of it, and those behind a stopper
+  selected_shed : (ss : List Span) (d : Tree) (v : Value) (fs gs ks hs ls : List Clause) {b c : Bool} → FixedValue mark d v → Selects mark v fs (ks ++ hs) → Ends ks hs → Sheds b fs gs → Sheds c hs ls → (b || c) ≡ true → ShedStep mark (switch_tree ss d (fs ++ (ks ++ hs))) (switch_tree ss d (gs ++ (ks ++ ls)))
 
 -- Statements in a switch, what stays of them outside and what goes: a direct `break` of the switch goes, and what was not
 -- reached behind it or behind another stopper, but for functions; all other `break`s in them are aimed at something in them.

@@ -11,18 +11,21 @@ use Rattle.swc_meaning.specs.Roles.{is_item, module_items}
 use Rattle.swc_meaning.proofs.DeadCode.{HasEnd, ends_here, ends_later, ends_block, ends_stops}
 use Rattle.swc_meaning.proofs.Laws.{same_lists_trans}
 use Rattle.swc_kept.specs.Dying as dying
-use Rattle.swc_kept.specs.Dying.{Sheds, sheds_none, item_stops, item_goes, ListRight, DyingRight}
+use Rattle.swc_kept.specs.Dying.{Sheds, sheds_none, item_stops, ListRight, DyingRight}
 use Rattle.branch_rules.specs.Lists.{is_bare, all_bare, Swept, none_swept, item_stays, empty_goes, block_opens, staying, Cut, uncut, past_item, cut_at, is_statement, all_statements, Tidied}
 use Rattle.branch_rules.specs.Removes.{remove_pass}
+use Rattle.branch_rules.specs.Switches.{is_shed, unlet}
 use Rattle.branch_rules.specs.Vars.{Declares, none_declared, some_declared}
 use Rattle.branch_steps.proofs.Becomes.{becomes_trans, becomes_list}
 use Rattle.branch_steps.proofs.ListsExact.{swept_becomes}
 use Rattle.branch_steps.proofs.ShedNames.{shed_names, let_names, cut_names, cut_same}
-use Rattle.branch_steps.proofs.Shedding.{is_shed, unlet, cut_between, cut_exact}
+use Rattle.branch_steps.proofs.Shedding.{cut_between, cut_exact}
+use Rattle.branch_steps.proofs.ShedRuns.{shed_right}
 use Rattle.branch_steps.proofs.Steps.{removes_right}
 use Rattle.branch_steps.proofs.Stoppers.{stopper_ends}
 use Rattle.branch_steps.proofs.SweptSame.{swept_same}
 use Rattle.branch_steps.proofs.TidiedOwe.{swept_statements}
+use Rattle.branch_steps.proofs.Unlet.{unlet_sheds}
 
 -- what declares nothing doesn't go so
 
@@ -74,21 +77,6 @@ swept_names none_swept = refl
 swept_names (item_stays t s) = ap (λ xs. shed_names t ++ xs) (swept_names s)
 swept_names (empty_goes ss s) = swept_names s
 swept_names (block_opens ss cs {ts} {us} b s) = bares_names cs us b ∙ swept_names s
-
--- behind what never ends normally they all go
-
-item_sheds : {mark : ℕ} (t : Tree) {ts us : Forest} {xs : List Name} → (stays_behind t || is_statement t) ≡ true → Sheds mark true ts us xs → Sheds mark true (t ⊳ ts) (if is_shed t then us else t ⊳ us) (shed_names t ++ xs)
-item_sheds (node (VarDecl Var) ss ε) h k = dying.item_stays k
-item_sheds (node (VarDecl Var) ss (d ⊳ ds)) h k = dying.item_stays k
-item_sheds (node (VarDecl Let) ss ε) h k = dying.item_stays k
-item_sheds (node (VarDecl Let) ss (d ⊳ ds)) h k = item_goes refl h k
-item_sheds (node (VarDecl Const) ss ε) h k = dying.item_stays k
-item_sheds (node (VarDecl Const) ss (d ⊳ ds)) h k = item_goes refl h k
-item_sheds t h k = dying.item_stays k
-
-unlet_sheds : {mark : ℕ} (ts : Forest) → all_statements ts ≡ true → Sheds mark true ts (unlet ts) (let_names ts)
-unlet_sheds ε h = sheds_none
-unlet_sheds (t ⊳ ts) h = let p = and_parts (stays_behind t || is_statement t) (all_statements ts) h in item_sheds t p.0 (unlet_sheds ts p.1)
 
 -- The cut of a list that begins with the statements of a block that was opened: it is behind them, or behind one of them.
 data Opened (mark : ℕ) (cs us : Forest) {kept : Name → Bool} {vs : Forest} (c : Cut kept (joined cs us) vs) : Type 0 where
@@ -203,4 +191,4 @@ tidied_right mark l d =
     }
 
 pub removes_die : (mark : ℕ) → DyingRight (remove_pass mark) mark
-removes_die mark = record { opens_none = λ t u e. e; node_right = λ t u r. removes_right r; list_right = λ l ts vs d. tidied_right mark l d }
+removes_die mark = record { open_right = λ t u s. shed_right mark s; node_right = λ t u r. removes_right r; list_right = λ l ts vs d. tidied_right mark l d }

@@ -58,5 +58,7 @@ pub mod ListsExact
 pub mod VarsStay
 pub mod Shedding
 pub mod ShedNames
+pub mod Unlet
+pub mod ShedRuns
 pub mod SweptSame
 pub mod Dying

@@ -24,6 +24,7 @@ use Rattle.branch_steps.proofs.StatementsOwe.{statement_owes}
 use Rattle.branch_steps.proofs.Steps.{is_source, step_source}
 use Rattle.branch_steps.proofs.SwitchOwes.{switch_owes}
 use Rattle.branch_steps.proofs.TidiedOwe.{tidied_owes, tidies_of}
+use Rattle.branch_steps.proofs.Unlet.{shed_owes}
 
 pub removes_owes : {N : Type 0} {P : Name → Type 0} {mark : ℕ} {t u : Tree} → N → Removes mark t u → Step N P t u
 removes_owes n (of_expression q s) = expression_owes q s
@@ -94,7 +95,7 @@ opened_after n d (hollow ss rs) = loop_step _ _ n (loop.tidy_hollow (tidies_of d
 opened_after n d (unwrap ss t p) = branch_step _ _ n (branch.tidy_unwrap (tidies_of d) p)
 
 pub does_owe : {N : Type 0} {P : Name → Type 0} {mark : ℕ} {a b : Tree} → N → Does (remove_pass mark) a b → Step N P a b
-does_owe n (at_front h) = absurd h
+does_owe n (at_front h) = shed_owes n h
 does_owe n (at_node h) = removes_owes n h
 does_owe n (at_list {l = l} {ss = ss} e d) = tidied_owes l ss e d
 does_owe n (at_both e d h) = opened_after n d (list_opens h e)

@@ -76,7 +76,7 @@ module _ (mark n d : ℕ) where
   cases [] = []
   cases (k ∷ ks) = (case_test k.is_default (eval mark n (call_at (eval mark n) d) k.test), run_all (evals mark n (call_at (eval mark n) d) k.body)) ∷ cases ks
 
-  cases_are : (ks : List Clause) → cases_of (kinds_of ks) (evals mark n (call_at (eval mark n) d) (trees_of ks)) ≡ cases ks
+  pub cases_are : (ks : List Clause) → cases_of (kinds_of ks) (evals mark n (call_at (eval mark n) d) (trees_of ks)) ≡ cases ks
   unfolding eval evals act
   cases_are [] = refl
   cases_are (k ∷ ks) = ap (λ rest. (case_test k.is_default (does k.test), runs k.body) ∷ rest) (cases_are ks)
@@ -157,7 +157,7 @@ module _ (mark n d : ℕ) where
   unequal_step true t v w m rest others c h p e q = absurd (true≢false h)
   unequal_step false t v w m rest others c h p e q = refines_drop (known_keeps t w c p e) (λ x r. refines_path (unequal_is (strict_equal (prim v) (prim x)) (m ∷ bodies_from rest) (selected rest others v c) (ap (λ y. strict_equal (prim v) (prim y)) r ∙ q)))
 
-  over_step : (b : Bool) (t : Tree) (v : Value) (m : Meaning) (rest : List Case) (others : List Meaning) (c : Context) → b ≡ true → selected ((case_test b (does t), m) ∷ rest) others v c ≡ selected rest others v c
+  pub over_step : (b : Bool) (t : Tree) (v : Value) (m : Meaning) (rest : List Case) (others : List Meaning) (c : Context) → b ≡ true → selected ((case_test b (does t), m) ∷ rest) others v c ≡ selected rest others v c
   unfolding selected
   over_step true t v m rest others c h = refl
   over_step false t v m rest others c h = absurd (false≢true h)

@@ -11,10 +11,11 @@ use Rattle.swc_meaning.proofs.Finds.{has_cons, has_joined}
 use Rattle.swc_static.proofs.Names.{has_name_append}
 use Rattle.branch_rules.specs.Lists.{staying, going, Cut, uncut, past_item, cut_at, is_statement, all_statements}
 use Rattle.swc_static.specs.Shaped.{is_lexical}
+use Rattle.branch_rules.specs.Switches.{unlet}
 use Rattle.branch_rules.specs.Vars.{names_left, all_names_left}
 use Rattle.branch_steps.proofs.Escapes.{neither}
 use Rattle.branch_steps.proofs.Modules.{lets_hold_none, consts_hold_none}
-use Rattle.branch_steps.proofs.Shedding.{unlet, cut_between, cut_declares, unlet_vars}
+use Rattle.branch_steps.proofs.Shedding.{cut_between, cut_declares, unlet_vars}
 use Rattle.branch_steps.proofs.TidiedOwe.{those_back, going_all, all_names_are}
 use Rattle.branch_steps.proofs.Vars.{declares_vars, left_has}
 

@@ -8,7 +8,7 @@ use Rattle.swc_ast.specs.Scope.{vars, vars_all, declared_by, declared}
 use Rattle.swc_ast.specs.Weight.{stays_behind}
 use Rattle.expr_steps.proofs.Refines.{refines_path}
 use Rattle.branch_rules.specs.Lists.{staying, Cut, uncut, past_item, cut_at, is_statement, all_statements}
-use Rattle.swc_static.specs.Shaped.{is_lexical}
+use Rattle.branch_rules.specs.Switches.{is_shed, unlet}
 use Rattle.branch_steps.proofs.Becoming.{Becomes}
 use Rattle.branch_steps.proofs.Becomes.{becomes_same, becomes_first}
 use Rattle.branch_steps.proofs.Labelled.{plain_declares}
@@ -17,16 +17,6 @@ use Rattle.branch_steps.proofs.Statements.{vars_first}
 use Rattle.branch_steps.proofs.Tests.{declared_behind}
 use Rattle.branch_steps.proofs.Unbroken.{stopped_run}
 use Rattle.branch_steps.proofs.Vars.{vars_declare}
-
--- `let` or `const` of some names
-abbrev pub is_shed : Tree → Bool
-is_shed (node (VarDecl k) ss (d ⊳ ds)) = is_lexical k
-is_shed _ = false
-
--- statements without those
-abbrev pub unlet : Forest → Forest
-unlet ε = ε
-unlet (t ⊳ ts) = if is_shed t then unlet ts else t ⊳ unlet ts
 
 -- a list that is cut, with what goes but for those
 abbrev pub cut_between : {kept : Name → Bool} {ts vs : Forest} → Cut kept ts vs → Forest

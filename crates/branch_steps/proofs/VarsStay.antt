@@ -17,7 +17,7 @@ use Rattle.swc_kept.specs.Finished.{Does, at_front, at_node, at_list, at_both}
 use Rattle.branch_rules.specs.Once.{do_once}
 use Rattle.branch_rules.specs.Removes.{BranchStep, statement, once, cases, Removes, of_expression, of_statement, of_default, followed, remove_pass}
 use Rattle.branch_rules.specs.Statements.{StatementStep, expression, choose, else_goes, branch_goes, while_true, while_false, while_never, for_first, for_update, for_true, for_false, for_no_update, for_no_body, for_never, do_true, label_empty, label_left, block_empty, block_one, try_inside, try_beside, try_alone, try_block}
-use Rattle.branch_rules.specs.Switches.{SwitchStep, nothing_left, only_default, only_default_apart, selected_case, selected_default, none_selected, leading_go}
+use Rattle.branch_rules.specs.Switches.{ShedStep, leading_shed, selected_shed, SwitchStep, nothing_left, only_default, only_default_apart, selected_case, selected_default, none_selected, leading_go}
 use Rattle.branch_steps.proofs.Steps.{is_source, step_source}
 use Rattle.branch_rules.specs.Lists.{Tidied, kept_names}
 use Rattle.branch_steps.proofs.Owes.{Opened, hollow, unwrap, list_opens, opened_after, removes_owes}
@@ -28,6 +28,7 @@ use Rattle.branch_steps.proofs.Sweeps.{sweeps_spare}
 use Rattle.branch_steps.proofs.Hoists.{bare_vars}
 use Rattle.branch_steps.proofs.Tidies.{tidies_spare_vars}
 use Rattle.branch_steps.proofs.ModuleBinds.{vars_parted}
+use Rattle.branch_steps.proofs.Unlet.{shed_owes}
 
 abbrev Every : Name → Type 0
 Every x = Unit {0}
@@ -93,6 +94,10 @@ statement_below (try_beside p ss bs fs h cs q) = refl
 statement_below (try_alone p ss bs fs h q) = refl
 statement_below (try_block ss bs hs fs cs) = refl
 
+shed_below : {mark : ℕ} {t u : Tree} → ShedStep mark t u → is_top (label_of t) ≡ false
+shed_below (leading_shed ss d v fs gs ks e p n s) = refl
+shed_below (selected_shed ss d v fs gs ks hs ls e p q s r o) = refl
+
 switch_below : {mark : ℕ} {t : Tree} {us : Forest} → SwitchStep mark t us → is_top (label_of t) ≡ false
 switch_below (nothing_left ss d ks h g p r e a q) = refl
 switch_below (only_default ss d fs k h g p i j w a u v q z l y) = refl
@@ -127,7 +132,7 @@ tidied_loses Module ss e d = module_loses (module_step_of ss d)
 tidied_loses l ss e d = absurd (false≢true e)
 
 pub does_lose_none : {mark : ℕ} {a b : Tree} → Does (remove_pass mark) a b → LosesNoVar a b
-does_lose_none (at_front h) = absurd h
+does_lose_none (at_front h) = loses_none (shed_below h) (shed_owes {N = Unit {0}} tt h).spares
 does_lose_none (at_node h) = loses_none (removes_below h) (removes_owes {N = Unit {0}} tt h).spares
 does_lose_none (at_list {l = l} {ss = ss} e d) = tidied_loses l ss e d
 does_lose_none (at_both e d h) = opened_loses d (list_opens h e)

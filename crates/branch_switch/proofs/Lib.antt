@@ -9,3 +9,4 @@ pub mod Meeting
 pub mod Default
 pub mod Room
 pub mod Behind
+pub mod Sheds

@@ -1,5 +1,5 @@
 -- What is planned from what is found.
-use Rattle.std.proofs.Common.{◌≡◌, ℕ, ◌+◌, ◌<◌, ◌≤◌, true, false, not, ◌&&◌, List, [], ◌∷◌, ◌++◌, suc, Some, length, take, drop, get_or, refl, sym, ap, subst, ◌∙◌}
+use Rattle.std.proofs.Common.{◌≡◌, ℕ, ◌+◌, ◌<◌, ◌≤◌, true, false, not, ◌&&◌, List, [], ◌∷◌, ◌++◌, suc, length, take, drop, get_or, refl, sym, ap, subst, ◌∙◌}
 use Rattle.std.proofs.Math.Seq.{drop-cons}
 use Rattle.std.proofs.lemmas.Bool.{and_parts, and_from}
 use Rattle.std.proofs.lemmas.List.{map-append, take_all, take_more}
@@ -7,10 +7,10 @@ use Rattle.swc_ast.specs.declared.statements.SwitchCase.{SwitchCase}
 use Rattle.swc_ast.specs.Tree.{Tree}
 use Rattle.swc_ast.specs.Value.{Value}
 use Rattle.branch_rules.specs.Statements.{all_plain}
-use Rattle.branch_rules.specs.Switches.{Clause, FixedValue, no_default, Passed}
+use Rattle.branch_rules.specs.Switches.{Clause, FixedValue, no_default, Passed, IsMet, Selects, by_test, by_default}
 use Rattle.branch_switch.specs.Clauses.{clause, clauses, plain_bodies}
 use Rattle.branch_switch.specs.Kept.{bodies_fit}
-use Rattle.branch_switch.specs.Plans.{IsMet, Selects, by_test, by_default, Known, SelectsNone, SelectsFrom, Leads, StartsBehind}
+use Rattle.branch_switch.specs.Plans.{Known, SelectsNone, SelectsFrom, Leads, StartsBehind}
 use Rattle.branch_switch.proofs.Forms.{clauses_parted}
 
 pub starts : (mark : ℕ) (v : Value) (d : Tree) (cs : List SwitchCase) (i : ℕ) → (plain_bodies (clauses (take i cs)) && bodies_fit false (clauses (drop i cs))) ≡ true → Selects mark v (clauses (take i cs)) (clauses (drop i cs)) → Known mark d v → SelectsFrom mark d (clauses (take i cs)) (clauses (drop i cs))

@@ -10,12 +10,12 @@ use Rattle.swc_ast.specs.Tree.{Block, Tree, node, Forest, ε, ◌⊳◌}
 use Rattle.swc_ast.specs.Value.{Value}
 use Rattle.swc_ast.specs.Views.{expr_tree, stmt_tree}
 use Rattle.branch_rules.specs.Statements.{as_statement}
-use Rattle.branch_rules.specs.Switches.{Clause, bodies_of, switch_tree, have_tests, is_discriminant, Passed, none_passed, unequal, over_default, SwitchStep, selected_case, selected_default, none_selected}
+use Rattle.branch_rules.specs.Switches.{Clause, bodies_of, switch_tree, have_tests, is_discriminant, Passed, none_passed, unequal, over_default, Selects, by_test, by_default, SwitchStep, selected_case, selected_default, none_selected}
 use Rattle.branch_rules.specs.Vars.{VarsOf}
 use Rattle.branch_parts.specs.Behind.{VarsBehind, vars_behind}
 use Rattle.branch_switch.specs.Clauses.{clause, clauses, plain_bodies}
 use Rattle.branch_switch.specs.Kept.{kept, gone, bodies_fit}
-use Rattle.branch_switch.specs.Plans.{Switched, switched, Selects, by_test, by_default, Known, SelectsNone, SelectsFrom}
+use Rattle.branch_switch.specs.Plans.{Switched, switched, Known, SelectsNone, SelectsFrom}
 use Rattle.branch_switch.proofs.Forms.{is_discriminant_view, have_tests_view, bodies_joined, clauses_parted}
 use Rattle.branch_switch.proofs.Keeping.{plain_bodies_declare, declared_behind, unbroken, kept_declared, kept_reached, bodies_fit_all}
 

@@ -3,4 +3,5 @@ pub mod Kept
 pub mod Defaults
 pub mod Sorts
 pub mod Plans
+pub mod Shed
 pub mod Values

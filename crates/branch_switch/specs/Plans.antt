@@ -1,6 +1,5 @@
 -- What is to be done with a `switch`, and what it becomes.
-use Rattle.std.specs.Prelude.{ℕ, ◌≡◌, ◌≤◌, Bool, true, false, List, [], ◌∷◌, ◌++◌, length, take, drop, Some}
-use Rattle.swc_ast.specs.Operators.{prim, strict_equal}
+use Rattle.std.specs.Prelude.{ℕ, ◌≡◌, ◌≤◌, true, false, List, [], ◌∷◌, length, take, drop}
 use Rattle.swc_ast.specs.Tree.{Tree, Forest}
 use Rattle.swc_ast.specs.Value.{Value}
 use Rattle.swc_ast.specs.Views.{stmt_tree}
@@ -9,7 +8,7 @@ use Rattle.swc_ast.specs.declared.statements.Stmt.{Stmt}
 use Rattle.swc_ast.specs.declared.statements.SwitchCase.{SwitchCase}
 use Rattle.swc_utils.specs.Pure.{pure}
 use Rattle.branch_rules.specs.Statements.{all_plain, as_statement}
-use Rattle.branch_rules.specs.Switches.{Clause, FixedValue, switch_tree, no_default, Passed, SwitchStep}
+use Rattle.branch_rules.specs.Switches.{Clause, FixedValue, switch_tree, no_default, Passed, Selects, SwitchStep}
 use Rattle.branch_switch.specs.Clauses.{clauses, all_idle, plain_bodies}
 use Rattle.branch_switch.specs.Defaults.{DefaultAlone}
 use Rattle.branch_switch.specs.Kept.{bodies_fit}
@@ -19,23 +18,6 @@ use Rattle.branch_switch.specs.declared.plan.Plan.TheVariants as plan
 -- a statement in the place of a `switch`, by one of the rules
 pub data Switched (mark : ℕ) (span : Span) (d : Tree) (ks : List Clause) (s : Stmt) : Type 0 where
   switched : (rs : List Span) {us : Forest} → SwitchStep mark (switch_tree (span ∷ []) d ks) us → stmt_tree s ≡ as_statement rs us → Switched mark span d ks s
-
--- a value that is known, and a test that it is found equal or unequal to
-pub record Tested (mark : ℕ) (v : Value) (t : Tree) (equal : Bool) : Type 0 where
-  pub value : Value
-  pub pure_test : pure mark t ≡ true
-  pub known : FixedValue mark t value
-  pub compared : strict_equal (prim v) (prim value) ≡ Some equal
-
--- a case whose test a value meets
-pub record IsMet (mark : ℕ) (v : Value) (k : Clause) : Type 0 where
-  pub no_default : k.is_default ≡ false
-  pub met : Tested mark v k.test true
-
--- cases that a value passes in front of the one that it selects
-pub data Selects (mark : ℕ) (v : Value) : List Clause → List Clause → Type 0 where
-  by_test : (fs : List Clause) (k : Clause) (ks : List Clause) → Passed mark v fs → IsMet mark v k → Selects mark v fs (k ∷ ks)
-  by_default : (fs : List Clause) (k : Clause) (ks : List Clause) → Passed mark v (fs ++ k ∷ ks) → no_default fs ≡ true → k.is_default ≡ true → Selects mark v fs (k ∷ ks)
 
 -- a discriminant whose value is known and that does nothing
 pub record Known (mark : ℕ) (d : Tree) (v : Value) : Type 0 where

@@ -5,8 +5,7 @@ use Rattle.swc_ast.specs.Operators.{number_value}
 use Rattle.swc_ast.specs.Tree.{Tree}
 use Rattle.swc_ast.specs.Value.{Value, Undefined, Null, Truth, Text}
 use Rattle.swc_utils.specs.Sound.{numeric}
-use Rattle.branch_rules.specs.Switches.{Clause, no_default, Passed}
-use Rattle.branch_switch.specs.Plans.{Tested, IsMet, Selects}
+use Rattle.branch_rules.specs.Switches.{Clause, no_default, Passed, Tested, IsMet, Selects}
 use Rattle.branch_switch.specs.declared.values.Known.{Known}
 use Rattle.branch_switch.specs.declared.values.Known.TheVariants as known
 use Rattle.branch_switch.specs.Clauses.{clauses}

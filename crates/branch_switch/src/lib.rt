@@ -7,9 +7,11 @@ mod defaults;
 mod folds;
 mod plan;
 mod selection;
+mod shed;
 mod sorts;
 mod switch;
 mod unbroken;
 mod values;
 
+pub use shed::shed_switch;
 pub use switch::fold_switch;

@@ -44,7 +44,7 @@ fn compared(alloc: Global, ctx: &ExprCtx, value: &Known, test: &Expr) -> Result<
 }
 
 /// What a case is to a value; `default` is passed.
-fn met(
+pub(crate) fn met(
     alloc: Global,
     ctx: &ExprCtx,
     value: &Known,
@@ -73,7 +73,7 @@ pub(crate) enum Found {
 }
 
 /// Whether a case is `default`.
-fn is_default(case: &SwitchCase) -> bool
+pub(crate) fn is_default(case: &SwitchCase) -> bool
     ensures { result ≡ (trees.clause case.now).is_default }
 {
     match &case.test {

@@ -22,6 +22,21 @@ fn fits(stopped: bool, s: &Stmt) -> bool
     sort_of(s).breaks() || !has_jump(Jumps::breaking(), s)
 }
 
+/// Whether the statements of a list that are run may be taken out of a `switch`: those up to one that ends the list.
+pub(crate) fn run_fits(stmts: &[Stmt]) -> bool {
+    let mut left = stmts;
+    while let [s, rest @ ..] = left {
+        if sort_of(s).stops() {
+            return fits(false, s);
+        }
+        if !fits(false, s) {
+            return false;
+        }
+        left = rest;
+    }
+    true
+}
+
 /// Whether a statement that ends the list stands in front of what follows a statement.
 fn stopped_by(stopped: bool, s: &Stmt) -> bool
     ensures { result ≡ keeping.stopped_by stopped (stmt_tree s.now) }

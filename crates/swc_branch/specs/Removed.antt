@@ -16,7 +16,7 @@ use Rattle.branch_rules.specs.Removes.{remove_pass}
 
 -- what the pass answers, made for the unresolved names of a mark
 pub record Removed (mark : ℕ) (t u : Tree) : Type 0 where
-  -- one walk, children first: at each node one rule, or none fits
+  -- one walk: at each node one rule in front of its children, if one fits, and one behind them, or none fits
   pub changed : Bool
   pub walk : Whole (remove_pass mark) changed t u
   -- what is resolved and in the core does the same in each world

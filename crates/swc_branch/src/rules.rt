@@ -1,18 +1,19 @@
 //! The rules of the pass at each node.
-ghost use Rattle.std.specs.Prelude.{◌≡◌, false, not, IfOk};
+ghost use Rattle.std.specs.Prelude.{◌≡◌, ◌≤◌, false, not, IfOk};
 ghost use Rattle.swc_ast.specs.Expressions.{param_tree};
 ghost use Rattle.swc_ast.specs.Redex as redex;
 ghost use Rattle.swc_ast.specs.Views.{expr_tree, stmt_tree};
 ghost use Rattle.swc_ast.specs.Weight.{is_list};
 ghost use Rattle.swc_static.specs.Names.{label_of};
 ghost use Rattle.swc_utils.specs.Globals.{unresolved};
-ghost use Rattle.swc_walk.specs.Walks.{Became, Stepped};
+ghost use Rattle.swc_ast.specs.declared.statements.Stmt.{size-Stmt};
+ghost use Rattle.swc_walk.specs.Walks.{Became, Opened, Stepped};
 ghost use Rattle.expr_places.specs.Dropped.{has_void_default};
 ghost use Rattle.branch_rules.specs.Removes.{remove_pass};
 
 use crate::expressions::fold_expr;
 use crate::places::is_cramped;
-use crate::statements::{finish_for, fold_stmt, is_for};
+use crate::statements::{finish_for, fold_stmt, is_for, open_stmt};
 use branch_lists::{tidy_items, tidy_statements};
 use expr_places::{drop_default, is_delete, shielded};
 use std::alloc::{AllocError, Global};
@@ -64,6 +65,13 @@ impl Rules for BranchRules {
             }
             None => Ok(false),
         }
+    }
+
+    fn enter_stmt(&self, s: &mut Stmt) -> Result<bool, AllocError>
+        ensures opens { IfOk result (λ changed. Opened (remove_pass (unresolved self.now.ctx)) changed (stmt_tree s.old) (stmt_tree s.new)) }
+        ensures no_deeper { IfOk result (λ changed. size-Stmt s.new ≤ size-Stmt s.old) }
+    {
+        open_stmt(self.alloc, &self.ctx, s)
     }
 
     #[tactic(auto, using(crate::proofs::Shields::default_at))]

@@ -1,16 +1,18 @@
 //! The rules of statements.
-ghost use Rattle.std.specs.Prelude.{◌≡◌, false, IfOk, IsNone, IsTrue, OnOk};
+ghost use Rattle.std.specs.Prelude.{◌≡◌, ◌≤◌, false, IfOk, IsNone, IsTrue, OnOk};
 ghost use Rattle.swc_ast.specs.Tree.{Tree};
 ghost use Rattle.swc_ast.specs.Views.{stmt_tree};
 ghost use Rattle.swc_ast.specs.Weight.{is_list};
 ghost use Rattle.swc_static.specs.Names.{label_of};
 ghost use Rattle.swc_utils.specs.Globals.{unresolved};
-ghost use Rattle.branch_rules.specs.Removes.{Removes, Rests};
+ghost use Rattle.swc_ast.specs.declared.statements.Stmt.{size-Stmt};
+ghost use Rattle.swc_walk.specs.Walks.{Opened};
+ghost use Rattle.branch_rules.specs.Removes.{Removes, Rests, remove_pass};
 ghost use Rattle.branch_rules.specs.Turns.{Turns};
 
 use branch_loops::{fold_do, fold_for, fold_while};
 use branch_statements::{fold_block, fold_expression, fold_if, fold_label, fold_try};
-use branch_switch::fold_switch;
+use branch_switch::{fold_switch, shed_switch};
 use std::alloc::{AllocError, Global};
 use swc_ast::Stmt;
 use swc_utils::ExprCtx;
@@ -42,6 +44,19 @@ pub(crate) fn fold_stmt(
         | Stmt::Continue(_)
         | Stmt::Throw(_)
         | Stmt::Decl(_) => Ok(None),
+    }
+}
+
+/// What there is to do at a statement before its children are walked: a `switch` on a known value loses `let` and `const` of
+/// cases that no run comes to. False: it is as it was. Fails where memory is refused.
+#[tactic(auto, using(swc_ast::proofs::Equations::forms, crate::proofs::Depths::switched_size))]
+pub(crate) fn open_stmt(alloc: Global, ctx: &ExprCtx, s: &mut Stmt) -> Result<bool, AllocError>
+    ensures opens { IfOk result (λ changed. Opened (remove_pass (unresolved ctx.now)) changed (stmt_tree s.old) (stmt_tree s.new)) }
+    ensures no_deeper { IfOk result (λ changed. size-Stmt s.new ≤ size-Stmt s.old) }
+{
+    match s {
+        Stmt::Switch(n) => shed_switch(alloc, ctx, n),
+        _ => Ok(false),
     }
 }
 

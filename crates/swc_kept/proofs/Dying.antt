@@ -1,23 +1,27 @@
--- A walk that takes declarations away behind what never ends normally keeps what a module or a script does: their names are dead.
-use Rattle.std.proofs.Common.{◌≡◌, ℕ, ◌<◌, Bool, true, false, ◌&&◌, ◌||◌, List, [], ◌∷◌, ◌++◌, refl, sym, ap, ap₂, subst, ◌∙◌, arith, ◌⊎◌, inl, inr}
+-- A walk that takes declarations away where no run comes keeps what a module or a script does: their names are dead.
+use Rattle.std.proofs.Common.{◌≡◌, ℕ, ◌<◌, Bool, true, false, ◌&&◌, ◌||◌, List, [], ◌∷◌, ◌++◌, Option, Some, None, refl, sym, ap, ap₂, subst, ◌∙◌, arith, ◌⊎◌, inl, inr}
 use Rattle.std.proofs.lemmas.Bool.{and_parts, or_cases, or_left, or_right, false≢true, true≢false}
 use Rattle.swc_ast.specs.declared.Span.{Span}
-use Rattle.swc_ast.specs.Tree.{Name, Text, same_name, Label, Param, For, Import, ExportDecl, VarDecl, Declarator, Module, Script, Tree, node, Forest, ε, ◌⊳◌}
+use Rattle.swc_ast.specs.Tree.{Name, Text, same_name, Label, Param, For, Switch, Block, Body, CaseBody, Import, ExportDecl, VarDecl, Declarator, Module, Script, Tree, node, Forest, ε, ◌⊳◌}
 use Rattle.swc_ast.specs.Core.{IsCore}
 use Rattle.swc_ast.specs.Meaning.{is_unresolved, eval}
 use Rattle.swc_ast.specs.Resolved.{scopes, is_default, IsResolved}
 use Rattle.swc_ast.specs.Run.{Same, sources, source_of, once}
-use Rattle.swc_ast.specs.Scope.{default_name, has_name, vars_all, found, declared, declarator_name, declarator_names}
+use Rattle.swc_ast.specs.Scope.{default_name, has_name, vars_all, case_statements, found, declared, declarator_name, declarator_names}
+use Rattle.swc_ast.specs.Value.{Value, State, Outcome, Done, Context}
 use Rattle.swc_ast.specs.Valid.{valid, valid_all, good_names, good_shape, is_identifier}
 use Rattle.swc_meaning.proofs.Observations.{same_itself}
-use Rattle.swc_meaning.specs.Exact.{Exact, ListExact, ListTrims, Stops}
-use Rattle.swc_meaning.specs.Roles.{label, is_part, module_items, Fits, unchanged, changed, SameLists, holds_function}
+use Rattle.swc_meaning.specs.Exact.{run_at, Refined, Exact, ListExact, Trimmed, ListTrims, Stops, Yielded, yielded, cases_at, Among, CasesTrim, Discriminant, any_value, one_value}
+use Rattle.swc_meaning.specs.Names.{Names}
+use Rattle.swc_meaning.specs.Rewrites.{Rewrites, All, nil, cons}
+use Rattle.swc_meaning.specs.Roles.{label, is_part, module_items, Fits, unchanged, changed, SameLists, SameScope, holds_function}
 use Rattle.swc_meaning.specs.Sameness.{heeded, ignoring}
 use Rattle.swc_meaning.specs.Walks as meaning
-use Rattle.swc_meaning.specs.Walks.{dead_names, no_names, binds_living, all_living, all_living_in, Steps, as_it_is, at_list, at_export, WalksAll, no_more, one_more, stops_there, WalksUnreached, none_unreached, one_unreached, goes_unseen, WalksWhole, walks_module, walks_script, StepsRight}
-use Rattle.swc_meaning.proofs.Laws.{exact_itself, list_exact_itself, list_trims_itself, same_lists_itself}
+use Rattle.swc_meaning.specs.Walks.{dead_names, no_names, binds_living, all_living, all_living_in, Steps, as_it_is, as_told, at_list, at_export, WalksAll, no_more, one_more, stops_there, WalksUnreached, none_unreached, one_unreached, goes_unseen, WalksWhole, walks_module, walks_script, StepsRight}
+use Rattle.swc_meaning.proofs.Laws.{last, exact_itself, list_exact_itself, list_trims_itself, same_lists_itself, trimmed_path}
+use Rattle.swc_meaning.proofs.Making.{other_cases}
 use Rattle.swc_meaning.proofs.Spans.{Bound, all_clean, living_clean}
-use Rattle.swc_meaning.proofs.Walking.{walk_same, dead_exports}
+use Rattle.swc_meaning.proofs.Walking.{walk_rewrites, walk_all, walk_same, dead_exports}
 use Rattle.swc_static.specs.Shaped.{is_declarator_of, labels_of, all_labels, holds, is_shaped, are_shaped, IsShaped}
 use Rattle.swc_static.specs.Together.{is_module}
 use Rattle.swc_static.proofs.Names.{has_name_append, same_name_path}
@@ -27,7 +31,8 @@ use Rattle.swc_static.proofs.Lost.{is_section, thinned_less}
 use Rattle.swc_walk.specs.Pass.{Pass, is_whole, is_plain, is_block, is_declaration}
 use Rattle.swc_walk.specs.Walks.{Walks, closed, opened, passes, stands, stepped, Entered, plain, exported, headed, head_shut, imports, block, ListMade, listed, tidied, Whole, shut, whole, AllWalk, nothing, both}
 use Rattle.swc_kept.specs.Plain.{NodeRight, does_same, default_goes}
-use Rattle.swc_kept.specs.Dying.{Sheds, sheds_none, item_stays, item_stops, item_goes, ListRight, DyingRight}
+use Rattle.swc_kept.specs.Dying.{Sheds, sheds_none, item_stays, item_stops, item_goes, CasesShed, tree_stays, Gives, leaf_gives, OpenRight, cases_shed, ListRight, DyingRight}
+use Rattle.swc_kept.proofs.Cases.{itself, all_itself, all_list, cases_thin, cases_vars, cases_scope}
 use Rattle.swc_kept.proofs.Finished.{whole_list, block_list}
 use Rattle.swc_kept.proofs.Living.{Hidden, living}
 use Rattle.swc_kept.proofs.Meant.{block_is, declaration_is, sources_at, plain_meant, default_meant}
@@ -35,7 +40,7 @@ use Rattle.swc_kept.proofs.Shed.{walked_label, Declares, declares, was_declared,
 
 -- steps
 
--- no step in front, and steps of nodes and lists that do the same
+-- steps of nodes and lists that do the same; what a `switch` becomes in front is told otherwise
 abbrev dying_steps : ℕ → (Name → Bool) → Steps
 dying_steps mark dead = record { Early = λ t u. ⊥; Node = λ t u. Exact mark t u × Fits (dead_names dead) t u; Before = λ ts us. us ≡ ts; Behind = λ ts us. ListExact mark ts us × SameLists (dead_names dead) ts us; Goes = λ t. ⊥; GoesBehind = λ t. ⊥ }
 
@@ -102,20 +107,6 @@ lists_dead dead xs {ts} {us} f s = record {
     by_names : (x : Name) → holds_function (found x (declared us)) ≡ false → (b : Bool) → has_name x xs ≡ b → holds_function (found x (declared ts)) ≡ false
     by_names x e true i = s.functions x i e
     by_names x e false i = ap holds_function (s.declares x i) ∙ e
-
--- a tree as it is
-
-mutual
-  itself : (t : Tree) → Thinned [] t t
-  itself (node l ss ts) = inside (all_itself ts)
-
-  all_itself : (ts : Forest) → ThinnedAll [] ts ts
-  all_itself ε = none_thinned
-  all_itself (t ⊳ ts) = more_thinned (itself t) (all_itself ts)
-
-all_list : {xs : List Name} {ts us : Forest} → ThinnedAll xs ts us → ThinnedList xs ts us
-all_list none_thinned = no_item
-all_list (more_thinned h hs) = thinned.item_stays h (all_list hs)
 
 no_source : (l : Label) → is_part l ≡ false → source_of l ≡ []
 no_source (Import src) e = absurd (true≢false e)
@@ -279,6 +270,182 @@ module _ (mark : ℕ) where
     walks = λ dead k a. let q = and_parts (binds_living dead l) (all_living_in dead w.thin) a in at_list l (block_is l e) refl (w.walks dead k q.1) (w.behind dead k) (list_step dead l e m);
   }
 
+  -- a `switch`
+
+  -- What is known of a `switch` whose cases became others in front of their walk, where no label of what is left binds a dead name.
+  record CasesMade (dead : Name → Bool) (ds : List Bool) (ss : List Span) (t given : Tree) (cs : Forest) (w : Tree) : Type 0 where
+    pub known : Option Value
+    pub between : Forest
+    pub rest : Forest
+    pub begins : Rewrites (dead_names dead) mark (eval mark) t given
+    pub tells : Discriminant mark given known
+    pub among : (v : Value) (n d : ℕ) (c : Context) (s : State) → run_at (eval mark) n d t c s ≡ Done v s → Among known v
+    pub trims : CasesTrim (dead_names dead) (eval mark) known ds cs ds between
+    pub scope : SameScope (dead_names dead) (case_statements (t ⊳ cs)) (case_statements (t ⊳ between))
+    pub vars : vars_all (t ⊳ cs) ≡ vars_all (t ⊳ between)
+    pub goes_on : All (dead_names dead) mark (eval mark) false between rest
+    pub steps : Exact mark (node (Switch ds) ss (given ⊳ rest)) w × Fits (dead_names dead) (node (Switch ds) ss (given ⊳ rest)) w
+
+  record WalkedSwitch (ds : List Bool) (ss : List Span) (t : Tree) (cs : Forest) (w : Tree) : Type 0 where
+    pub names : List Name
+    pub thin : Forest
+    pub thins : ThinnedAll names (t ⊳ cs) thin
+    pub given : Tree
+    -- a leaf for a discriminant does the same once it is walked
+    pub still : (l : Label) (qs : List Span) → is_plain l ≡ true → t ≡ node l qs ε → Exact mark t given
+    pub made : (dead : Name → Bool) → AreDead mark dead names → all_living_in dead thin ≡ true → CasesMade dead ds ss t given cs w
+
+  switch_is : {ds : List Bool} {ss : List Span} {t : Tree} {cs : Forest} {w : Tree} → WalkedSwitch ds ss t cs w → Walked (node (Switch ds) ss (t ⊳ cs)) w
+  switch_is {ds} {ss} {t} {cs} {w} k = record {
+    names = k.names;
+    thin = node (Switch ds) ss k.thin;
+    thins = inside k.thins;
+    walks = λ dead q a.
+        let m = k.made dead q a in
+        as_told (last (other_cases ds ds ss ss m.begins m.tells m.trims m.scope (record { vars = λ x i z. ap (has_name x) m.vars; guarded_vars = λ x g e. sym (ap (has_name x) m.vars) ∙ e }) m.goes_on) m.steps.0 m.steps.1);
+  }
+
+  -- one that is not entered
+  living_rewrites : (dead : Name → Bool) → Bound dead mark → (t : Tree) → all_living dead t ≡ true → Rewrites (dead_names dead) mark (eval mark) t t
+  living_rewrites dead b t a = walk_rewrites (dying_right mark dead) (as_it_is refl (living_clean b t a))
+
+  living_all : (dead : Name → Bool) → Bound dead mark → (ts : Forest) → all_living_in dead ts ≡ true → All (dead_names dead) mark (eval mark) false ts ts
+  living_all dead b ε a = nil
+  living_all dead b (t ⊳ ts) a = let q = and_parts (all_living dead t) (all_living_in dead ts) a in cons (living_rewrites dead b t q.0) (living_all dead b ts q.1)
+
+  same_cases : {N : Names} (ds : List Bool) (cs : Forest) → CasesTrim N (eval mark) None ds cs ds cs
+  same_cases ds cs = record { by = λ n d v c s a g. trimmed_path refl }
+
+  shut_switch : (ds : List Bool) (ss : List Span) (t : Tree) (cs : Forest) → WalkedSwitch ds ss t cs (node (Switch ds) ss (t ⊳ cs))
+  shut_switch ds ss t cs = record {
+    names = [];
+    thin = t ⊳ cs;
+    thins = all_itself (t ⊳ cs);
+    given = t;
+    still = λ l qs p e. exact_itself mark t;
+    made = λ dead k a.
+        let q = and_parts (all_living dead t) (all_living_in dead cs) a in
+        record {
+          known = None;
+          between = cs;
+          rest = cs;
+          begins = living_rewrites dead k.bound t q.0;
+          tells = any_value;
+          among = λ v n d c s e. tt;
+          trims = same_cases ds cs;
+          scope = record { declares = λ x i. refl; functions = λ x g e. e };
+          vars = refl;
+          goes_on = living_all dead k.bound cs q.1;
+          steps = stays_node dead (node (Switch ds) ss (t ⊳ cs));
+        };
+  }
+
+  -- one whose children are walked
+  switch_step : (dead : Name → Bool) {ds : List Bool} {ss : List Span} {us : Forest} {w : Tree} → Moved (node (Switch ds) ss us) w → Exact mark (node (Switch ds) ss us) w × Fits (dead_names dead) (node (Switch ds) ss us) w
+  switch_step dead {ds} {ss} {us} unmoved = stays_node dead (node (Switch ds) ss us)
+  switch_step dead (moved (does_same g f i)) = (g, fits_dead dead f)
+
+  first_walks : {N : Names} {t u : Tree} {ts us : Forest} → All N mark (eval mark) false (t ⊳ ts) (u ⊳ us) → Rewrites N mark (eval mark) t u
+  first_walks (cons h hs) = h
+
+  rest_walks : {N : Names} {t u : Tree} {ts us : Forest} → All N mark (eval mark) false (t ⊳ ts) (u ⊳ us) → All N mark (eval mark) false ts us
+  rest_walks (cons h hs) = hs
+
+  entered_switch : {ds : List Bool} {ss : List Span} {t d : Tree} {cs us : Forest} {w : Tree} → ((l : Label) (qs : List Span) → is_plain l ≡ true → t ≡ node l qs ε → Exact mark t d) → WalkedAll (t ⊳ cs) (d ⊳ us) → Moved (node (Switch ds) ss (d ⊳ us)) w → WalkedSwitch ds ss t cs w
+  entered_switch {ds} {ss} {t} {d} {cs} {us} f k m = record {
+    names = k.names;
+    thin = k.thin;
+    thins = k.thins;
+    given = d;
+    still = f;
+    made = λ dead q a.
+        let h = walk_all (dying_right mark dead) (k.walks dead q a false) in
+        record {
+          known = None;
+          between = cs;
+          rest = us;
+          begins = first_walks h;
+          tells = any_value;
+          among = λ v n d c s e. tt;
+          trims = same_cases ds cs;
+          scope = record { declares = λ x i. refl; functions = λ x g e. e };
+          vars = refl;
+          goes_on = rest_walks h;
+          steps = switch_step dead m;
+        };
+  }
+
+  -- one whose lists lost declarations in front of that
+
+  value_given : {v : Value} {t : Tree} → Gives mark v t → (n d : ℕ) (c : Context) (s : State) → run_at (eval mark) n d t c s ≡ Done v s
+  value_given (leaf_gives l p h f) = f
+
+  abbrev done_value : Value → Outcome Value → Value
+  done_value v (Done w s) = w
+  done_value v o = v
+
+  yields_it : {v : Value} {s : State} {o r : Outcome Value} → o ≡ Done v s → Refined o r → Yielded v r
+  yields_it {v} {s} {o} {r} e h = subst (λ z. Yielded v z) (sym (subst (λ z. Refined z r) e h)) yielded
+
+  gives_tells : {v : Value} {t d : Tree} → Gives mark v t → ((l : Label) (qs : List Span) → is_plain l ≡ true → t ≡ node l qs ε → Exact mark t d) → Discriminant mark d (Some v)
+  gives_tells (leaf_gives l {ss} p h f) g = one_value h (record { by = λ n d c s. yields_it (f n d c s) (((g l ss p refl).by n d c).by s) })
+
+  opened_switch : {ds : List Bool} {ss : List Span} {t : Tree} {cs us : Forest} {xs : List Name} {w : Tree} (v : Value) → Gives mark v t → CasesShed mark cs us xs → ((n d : ℕ) (c : Context) (s : State) → cases_at (eval mark) n d ds cs v c s ≡ cases_at (eval mark) n d ds us v c s) → WalkedSwitch ds ss t us w → WalkedSwitch ds ss t cs w
+  opened_switch {ds} {ss} {t} {cs} {us} {xs} v g k e r =
+      let b = cases_thin (tree_stays {t = t} k) r.thins in
+      record {
+        names = b.names;
+        thin = r.thin;
+        thins = b.thins;
+        given = r.given;
+        still = r.still;
+        made = λ dead q a.
+            let m = r.made dead (record { bound = q.bound; covers = λ x i. q.covers x (b.second.by x i) }) a in
+            let f = cases_scope (tree_stays {t = t} k) (λ x i. q.covers x (b.first.by x i)) in
+            record {
+              known = Some v;
+              between = m.between;
+              rest = m.rest;
+              begins = m.begins;
+              tells = gives_tells g r.still;
+              among = λ w n d c s i. ap (done_value w) (sym i ∙ value_given g n d c s);
+              trims = record {
+                by = λ n d w c s i h. subst (λ z. Trimmed (dead_names dead) (cases_at (eval mark) n d ds cs z c s) (cases_at (eval mark) n d ds m.between z c s)) (sym i)
+                    (subst (λ z. Trimmed (dead_names dead) z (cases_at (eval mark) n d ds m.between v c s)) (sym (e n d c s)) (m.trims.by n d v c s (m.among v n d c s (value_given g n d c s)) h));
+              };
+              scope = record { declares = λ x i. f.declares x i ∙ m.scope.declares x i; functions = λ x i j. f.functions x i (m.scope.functions x i j) };
+              vars = cases_vars (tree_stays {t = t} k) ∙ m.vars;
+              goes_on = m.goes_on;
+              steps = m.steps;
+            };
+      }
+
+  -- a `switch` that lost declarations has its shape
+  shed_shaped : (ds : List Bool) (ss : List Span) (t : Tree) {cs us : Forest} {xs : List Name} → CasesShed mark cs us xs → is_shaped (node (Switch ds) ss (t ⊳ cs)) ≡ true → is_shaped (node (Switch ds) ss (t ⊳ us)) ≡ true
+  shed_shaped ds ss t {cs} {us} k h = thinned_shaped (inside {l = Switch ds} {ss = ss} (cases_thin (tree_stays {t = t} k) (all_itself (t ⊳ us))).thins) h
+
+  open_shaped : {a b : Tree} → OpenRight mark a b → is_shaped a ≡ true → is_shaped b ≡ true
+  open_shaped (cases_shed {ds = ds} {ss = ss} {t = t} v g k e) h = shed_shaped ds ss t k h
+
+  -- what is known of a walked tree, if it is a `switch`
+  abbrev SwitchOf : Tree → Tree → Type 0
+  SwitchOf (node (Switch ds) ss (t ⊳ cs)) d = WalkedSwitch ds ss t cs d
+  SwitchOf t d = Unit {0}
+
+  shut_of : (t : Tree) → SwitchOf t t
+  shut_of (node (Switch ds) ss (t ⊳ cs)) = shut_switch ds ss t cs
+  shut_of t = tt
+
+  opened_of : (d : Tree) {a b : Tree} → OpenRight mark a b → SwitchOf b d → SwitchOf a d
+  opened_of d (cases_shed v g k e) w = opened_switch v g k e w
+
+  opened_is : (d : Tree) {a b : Tree} → OpenRight mark a b → SwitchOf b d → Walked a d
+  opened_is d (cases_shed v g k e) w = switch_is (opened_switch v g k e w)
+
+  block_of : (l : Label) (ss : List Span) (ts : Forest) (d : Tree) → is_block l ≡ true → SwitchOf (node l ss ts) d
+  block_of (Switch ds) ss ts d e = absurd (false≢true e)
+  block_of l ss ts d e = tt
+
   all_both : {t u : Tree} {ts us : Forest} → Walked t u → WalkedAll ts us → WalkedAll (t ⊳ ts) (u ⊳ us)
   all_both w ws = record {
     names = w.names ++ ws.names;
@@ -374,10 +541,45 @@ module _ (mark : ℕ) where
     not_entered : (t : Tree) → Walked t t
     not_entered t = record { names = []; thin = t; thins = itself t; walks = λ dead k a. as_it_is refl (living_clean k.bound t a) }
 
+    -- a leaf that is walked does the same
+
+    leaf_entered : {c : Bool} {l : Label} {qs : List Span} {b : Tree} → is_plain l ≡ true → Entered X c (node l qs ε) b → b ≡ node l qs ε
+    leaf_entered p (plain q nothing) = refl
+    leaf_entered p (imports u) = refl
+    leaf_entered {l = l} p (block e w) = absurd (not_both l e p)
+      where
+        not_both : (l : Label) → is_block l ≡ true → is_plain l ≡ true → ⊥
+        not_both Block e p = false≢true p
+        not_both Body e p = false≢true p
+        not_both CaseBody e p = false≢true p
+        not_both l e p = false≢true e
+
+    no_leaf : {a b : Tree} {l : Label} {qs : List Span} → a ≡ node l qs ε → OpenRight mark a b → ⊥
+    no_leaf e (cases_shed v g k f) = cc
+
+    leaf_step : {a d : Tree} {l : Label} {qs : List Span} → a ≡ node l qs ε → NodeRight mark a d → Exact mark (node l qs ε) d
+    leaf_step {d = d} e (does_same g f i) = subst (λ z. Exact mark z d) e g
+    leaf_step e (default_goes y) = cc
+
+    leaf_walked : {c : Bool} {l : Label} {qs : List Span} {d : Tree} → is_plain l ≡ true → Walks X c (node l qs ε) d → Exact mark (node l qs ε) d
+    leaf_walked {l = l} {qs = qs} p (closed s) = exact_itself mark (node l qs ε)
+    leaf_walked {l = l} {qs = qs} p (opened {t = t} {u = u} s w) = absurd (no_leaf refl (r.open_right t u s))
+    leaf_walked {l = l} {qs = qs} p (passes i w) = subst (λ z. Exact mark (node l qs ε) z) (sym (leaf_entered p w)) (exact_itself mark (node l qs ε))
+    leaf_walked {l = l} {qs = qs} p (stands w i) = subst (λ z. Exact mark (node l qs ε) z) (sym (leaf_entered p w)) (exact_itself mark (node l qs ε))
+    leaf_walked p (stepped {b = b} {d = d} w s) = leaf_step (leaf_entered p w) (r.node_right b d s)
+
+    leaf_still : {c : Bool} {t d : Tree} → Walks X c t d → (l : Label) (qs : List Span) → is_plain l ≡ true → t ≡ node l qs ε → Exact mark t d
+    leaf_still {c = c} {d = d} w l qs p e = subst (λ z. Exact mark z d) (sym e) (leaf_walked p (subst (λ z. Walks X c z d) e w))
+
+    plain_of : (l : Label) (ss : List Span) {c : Bool} {ts us : Forest} {d : Tree} → AllWalk X c ts us → WalkedAll ts us → Moved (node l ss us) d → SwitchOf (node l ss ts) d
+    plain_of (Switch ds) ss nothing k m = tt
+    plain_of (Switch ds) ss (both w ws) k m = entered_switch (leaf_still w) k m
+    plain_of l ss ws k m = tt
+
     mutual
       walked : {c : Bool} {a b : Tree} → Walks X c a b → is_shaped a ≡ true → Walked a b
       walked (closed {t = t} s) h = not_entered t
-      walked (opened {t = t} {u = u} s w) h = absurd (r.opens_none t u s)
+      walked (opened {t = t} {u = u} {v = v} s w) h = opened_is v (r.open_right t u s) (switch_walked w (open_shaped (r.open_right t u s) h))
       walked (passes i w) h = entered w h unmoved
       walked (stands w i) h = entered w h unmoved
       walked (stepped {b = b} {d = d} w s) h = entered w h (moved (r.node_right b d s))
@@ -391,6 +593,22 @@ module _ (mark : ℕ) where
       entered (head_shut {h = d} {ss = ss} {ts = ts} s ws) h m = plain_walked For ss refl (all_both (not_entered d) (walked_all ws (and_parts (is_shaped d) (are_shaped ts) (and_parts (holds For (labels_of (d ⊳ ts))) (are_shaped (d ⊳ ts)) h).1).1)) m
       entered (imports {src = src} {ss = ss} u) h m = import_walked src ss m
       entered (block {l = l} {ss = ss} {ts = ts} e w) h m = block_walked l ss e (walked_list w (and_parts (holds l (labels_of ts)) (are_shaped ts) h).1) m
+
+      -- where a `switch` was walked
+      switch_walked : {c : Bool} {a b : Tree} → Walks X c a b → is_shaped a ≡ true → SwitchOf a b
+      switch_walked (closed {t = t} s) h = shut_of t
+      switch_walked (opened {t = t} {u = u} {v = v} s w) h = opened_of v (r.open_right t u s) (switch_walked w (open_shaped (r.open_right t u s) h))
+      switch_walked (passes i w) h = switch_entered w h unmoved
+      switch_walked (stands w i) h = switch_entered w h unmoved
+      switch_walked (stepped {b = b} {d = d} w s) h = switch_entered w h (moved (r.node_right b d s))
+
+      switch_entered : {c : Bool} {a b d : Tree} → Entered X c a b → is_shaped a ≡ true → Moved b d → SwitchOf a d
+      switch_entered (plain {l = l} {ss = ss} {ts = ts} p ws) h m = plain_of l ss ws (walked_all ws (and_parts (holds l (labels_of ts)) (are_shaped ts) h).1) m
+      switch_entered (exported d ws) h m = tt
+      switch_entered (headed hs ws) h m = tt
+      switch_entered (head_shut s ws) h m = tt
+      switch_entered (imports u) h m = tt
+      switch_entered {d = d} (block {l = l} {ss = ss} {ts = ts} e w) h m = block_of l ss ts d e
 
       walked_list : {l : Label} {c : Bool} {ts us : Forest} → ListMade X l c ts us → are_shaped ts ≡ true → WalkedList l ts us
       walked_list {l = l} (listed ws t) h = untidied l ws (walked_all ws h)

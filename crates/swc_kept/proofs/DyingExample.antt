@@ -12,15 +12,15 @@ use Rattle.swc_static.specs.Shaped.{IsShaped}
 use Rattle.swc_walk.specs.Pass.{Pass}
 use Rattle.swc_walk.specs.Walks.{closed, passes, plain, block, listed, tidied, Whole, whole, nothing, both}
 use Rattle.swc_kept.specs.Plain.{NodeRight}
-use Rattle.swc_kept.specs.Dying.{sheds_none, item_stays, item_stops, item_goes, ListRight, DyingRight}
+use Rattle.swc_kept.specs.Dying.{sheds_none, item_stays, item_stops, item_goes, ListRight, OpenRight, DyingRight}
 use Rattle.swc_kept.proofs.Dying.{dying_same}
 
 -- a pass that may take each right step
 abbrev any_pass : ℕ → Pass
-any_pass mark = record { opens = λ t u. ⊥; steps = NodeRight mark; rests = λ t. Unit {0}; tidies = ListRight mark; tidy = λ l ts. Unit {0}; skips = λ t. Unit {0} }
+any_pass mark = record { opens = OpenRight mark; steps = NodeRight mark; rests = λ t. Unit {0}; tidies = ListRight mark; tidy = λ l ts. Unit {0}; skips = λ t. Unit {0} }
 
 any_right : (mark : ℕ) → DyingRight (any_pass mark) mark
-any_right mark = record { opens_none = λ t u e. e; node_right = λ t u s. s; list_right = λ l ts vs m. m }
+any_right mark = record { open_right = λ t u s. s; node_right = λ t u s. s; list_right = λ l ts vs m. m }
 
 abbrev f : Name
 f = record { text = codes "f"; context = 2 }

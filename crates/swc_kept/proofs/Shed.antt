@@ -17,7 +17,7 @@ use Rattle.swc_static.proofs.Lost.{lexical_names}
 use Rattle.swc_walk.specs.Pass.{Pass}
 use Rattle.swc_walk.specs.Walks.{Walks, closed, opened, passes, stands, stepped, Entered, plain, exported, headed, head_shut, imports, block, AllWalk, nothing, both}
 use Rattle.swc_kept.specs.Plain.{NodeRight, does_same, default_goes}
-use Rattle.swc_kept.specs.Dying.{DyingRight}
+use Rattle.swc_kept.specs.Dying.{OpenRight, cases_shed, DyingRight}
 
 -- labels that a parent looks for stay through a walk
 
@@ -37,9 +37,12 @@ right_label : {A : Type 0} (f : Label → A) (o : A) → ((l : Label) → is_par
 right_label f o h (does_same e g i) = fits_label f o h g
 right_label f o h (default_goes y) = refl
 
+open_label : {A : Type 0} (f : Label → A) {mark : ℕ} {t u : Tree} → OpenRight mark t u → f (label t) ≡ f (label u)
+open_label f (cases_shed v g h e) = refl
+
 pub walked_label : {A : Type 0} (f : Label → A) (o : A) → ((l : Label) → is_part l ≡ false → f l ≡ o) → {X : Pass} {mark : ℕ} → DyingRight X mark → {c : Bool} {t u : Tree} → Walks X c t u → f (label t) ≡ f (label u)
 walked_label f o h r (closed s) = refl
-walked_label f o h r (opened {t = t} {u = u} s w) = absurd (r.opens_none t u s)
+walked_label f o h r (opened {t = t} {u = u} s w) = open_label f (r.open_right t u s) ∙ walked_label f o h r w
 walked_label f o h r (passes i w) = ap f (entered_label w)
 walked_label f o h r (stands w i) = ap f (entered_label w)
 walked_label f o h r (stepped {b = b} {d = d} w s) = ap f (entered_label w) ∙ right_label f o h (r.node_right b d s)
@@ -104,16 +107,19 @@ entered_before r (head_shut s ws) h = elim h [ ]
 entered_before r (imports u) h = elim h [ ]
 entered_before r (block b w) (declares e h) = absurd (false≢true b)
 
+open_before : {mark : ℕ} {xs : List Name} {t u : Tree} → OpenRight mark t u → Declares xs u → Declares xs t
+open_before (cases_shed v g h e) d = elim d [ ]
+
 pub was_declared : {X : Pass} {mark : ℕ} → DyingRight X mark → {k : VarDeclKind} {ss : List Span} {d : Tree} {ds : Forest} → is_lexical k ≡ true → all_labels (is_declarator_of k) (labels_of (d ⊳ ds)) ≡ true → {c : Bool} {t : Tree} → Walks X c t (node (VarDecl k) ss (d ⊳ ds)) → Declares (declarator_names (d ⊳ ds)) t
 was_declared r e a (closed s) = declares e (λ x h. h)
-was_declared r e a (opened {t = t} {u = u} s w) = absurd (r.opens_none t u s)
+was_declared r e a (opened {t = t} {u = u} s w) = open_before (r.open_right t u s) (was_declared r e a w)
 was_declared r e a (passes i w) = entered_before r w (declares e (λ x h. h))
 was_declared r e a (stands w i) = entered_before r w (declares e (λ x h. h))
 was_declared r e a (stepped {b = b} {d = d} w s) = entered_before r w (step_before e a b (r.node_right b d s))
 
 -- a declaration of dead names declares no other
 
-no_vars : (k : VarDeclKind) → is_lexical k ≡ true → (ds : Forest) → all_labels (is_declarator_of k) (labels_of ds) ≡ true → vars_all ds ≡ []
+pub no_vars : (k : VarDeclKind) → is_lexical k ≡ true → (ds : Forest) → all_labels (is_declarator_of k) (labels_of ds) ≡ true → vars_all ds ≡ []
 no_vars k e ε a = refl
 no_vars k e (node l ss cs ⊳ ds) a = let p = and_parts (is_declarator_of k l) (all_labels (is_declarator_of k) (labels_of ds)) a in ap₂ ◌++◌ (no_var k l ss cs e p.0) (no_vars k e ds p.1)
   where
