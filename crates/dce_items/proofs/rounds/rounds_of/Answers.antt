@@ -7,5 +7,5 @@ use Rattle.dce_items.proofs.rounds.rounds_of.Goals as goal
 
 pub returns-clause-layered : goal.returns-clause-layered
 returns-clause-layered c some =
-    laid_from _ c.in_ok-retained.field-0 (map string_bytes c.args.retained.now) _ (list_trees item_tree c.args.module.now.body.items) (children_forest c.«open».result.children) c.in_ok-described.field-0 c.in-Some.described c.deref-2.result.now c.in_ok-layers_of.field-0.rounds c.in_ok-layers_of.field-0.layers.items c.in_ok-retained.ensures c.«open».ensures.1 c.in-Some.is
+    laid_from _ c.in_ok-retained.retained (map string_bytes c.args.retained.now) _ (list_trees item_tree c.args.module.now.body.items) (children_forest c.«open».result.children) c.in_ok-described.field-0 c.in-Some.described c.deref-2.result.now c.in_ok-layers_of.field-0.rounds c.in_ok-layers_of.field-0.layers.items c.in_ok-retained.ensures c.«open».ensures.1 c.in-Some.is
     c.in_ok-described.ensures.described c.deref-2.ensures.value c.in_ok-layers_of.ensures.layers some
