@@ -75,3 +75,14 @@ test('GATE and ARCHITECTURE name each crate', () => {
         for (const crate of crates) assert.ok(read('docs', name).includes(`\`${crate}\``), `${name}: ${crate}`);
     }
 });
+
+test('no pass uses a crate of another pass', () => {
+    const passes = ['expr', 'branch', 'dce', 'carry', 'const'];
+    const passOf = (crate) => passes.find((pass) => crate.startsWith(`${pass}_`) || crate === `swc_${pass}`);
+    for (const [, crate, below] of read('crates.txt').matchAll(/^(\w+):(.*)$/gm)) {
+        const pass = passOf(crate);
+        if (pass === undefined) continue;
+        const others = below.split(' ').filter((other) => ![undefined, pass].includes(passOf(other)));
+        assert.deepEqual(others, [], crate);
+    }
+});

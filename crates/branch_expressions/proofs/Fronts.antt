@@ -10,7 +10,7 @@ use Rattle.swc_ast.specs.Views.{expr_tree}
 use Rattle.swc_utils.specs.Effects.{preserve}
 use Rattle.swc_utils.specs.Pure.{pure}
 use Rattle.swc_utils.proofs.Chains.{pushed}
-use Rattle.expr_rules.specs.Defaults.{is_void}
+use Rattle.pass_rules.specs.Defaults.{is_void}
 use Rattle.branch_rules.specs.Ignored.{IgnoresAll}
 use Rattle.branch_rules.specs.Expressions.{ExpressionStep, front, same_arms, always_void}
 use Rattle.branch_expressions.specs.Left.{Adds}

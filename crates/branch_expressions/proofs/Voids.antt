@@ -16,7 +16,7 @@ use Rattle.swc_ast.specs.Views.{expr_tree}
 use Rattle.swc_ast.proofs.Equations.{expr_tree-Lit}
 use Rattle.swc_ast.proofs.Places.{at_expr-Unary}
 use Rattle.swc_utils.specs.Pure.{pure}
-use Rattle.expr_rules.specs.Defaults.{is_void}
+use Rattle.pass_rules.specs.Defaults.{is_void}
 use Rattle.branch_rules.specs.Expressions.{always_void, is_literal_leaf}
 
 -- `void` of an operand

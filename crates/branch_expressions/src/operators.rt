@@ -6,7 +6,7 @@ ghost use Rattle.swc_ast.specs.Views.{expr_tree};
 ghost use Rattle.swc_utils.specs.Effects.{is_typeof};
 ghost use Rattle.swc_utils.specs.Globals.{unresolved};
 ghost use Rattle.branch_rules.specs.Ignored.{Ignores, may_skip as op_may_skip, skips as op_skips};
-ghost use Rattle.expr_rules.specs.Equality.{is_nullish_type};
+ghost use Rattle.pass_rules.specs.Values.{is_nullish_type};
 ghost use Rattle.branch_expressions.specs.Left.{Rested, is_change as tree_is_change, tree_of};
 ghost use Rattle.branch_expressions.specs.Choices.{Decides, are_none, choice_tree, only_tree};
 

@@ -5,7 +5,7 @@ ghost use Rattle.swc_ast.specs.Meaning.{is_unresolved};
 ghost use Rattle.swc_ast.specs.Parts.{ident_name};
 ghost use Rattle.swc_ast.specs.Views.{expr_tree};
 ghost use Rattle.swc_utils.specs.Globals.{unresolved};
-ghost use Rattle.expr_rules.specs.Defaults.{is_void as tree_is_void};
+ghost use Rattle.pass_rules.specs.Defaults.{is_void as tree_is_void};
 ghost use Rattle.branch_rules.specs.Expressions.{Becomes, always_void as tree_always_void, is_literal_leaf};
 ghost use Rattle.branch_expressions.specs.Choices.{IsName, Itself};
 

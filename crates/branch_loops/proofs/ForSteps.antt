@@ -18,7 +18,7 @@ use Rattle.swc_static.specs.Drawn.{is_expression}
 use Rattle.swc_static.specs.Names.{label_of}
 use Rattle.swc_utils.specs.Known.{truth, pure_truth}
 use Rattle.swc_utils.specs.Pure.{pure}
-use Rattle.expr_steps.proofs.ExprTrees.{is_an_expression}
+use Rattle.pass_steps.proofs.ExprTrees.{is_an_expression}
 use Rattle.branch_rules.specs.Removes.{statement}
 use Rattle.branch_rules.specs.Statements.{is_optional, StatementStep, Part, part_goes, part_left, for_first, for_update, for_true, for_false, for_no_update, for_no_body, for_never}
 use Rattle.branch_rules.specs.Turns.{Turns, by_rule}

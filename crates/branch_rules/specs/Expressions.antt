@@ -12,8 +12,8 @@ use Rattle.swc_ast.specs.Weight.{weight}
 use Rattle.swc_utils.specs.Effects.{preserve}
 use Rattle.swc_utils.specs.Globals.{is_undefined}
 use Rattle.swc_utils.specs.Pure.{pure}
-use Rattle.expr_rules.specs.Defaults.{is_void}
-use Rattle.expr_rules.specs.Leaves.{guarded}
+use Rattle.pass_rules.specs.Defaults.{is_void}
+use Rattle.pass_rules.specs.Leaves.{guarded}
 use Rattle.branch_rules.specs.Ignored.{IgnoresAll}
 
 -- a number, a text, a truth value or null

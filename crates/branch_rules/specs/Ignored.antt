@@ -17,7 +17,7 @@ use Rattle.swc_utils.specs.Pure.{pure, is_pure_callee, has_spread}
 use Rattle.swc_utils.specs.Types.{type_of}
 use Rattle.swc_static.specs.Drawn.{is_expression}
 use Rattle.swc_static.specs.Names.{label_of}
-use Rattle.expr_rules.specs.Equality.{is_nullish_type}
+use Rattle.pass_rules.specs.Values.{is_nullish_type}
 
 -- an operator whose right side may not be run
 abbrev pub may_skip : BinaryOp → Bool

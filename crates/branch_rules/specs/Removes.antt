@@ -9,7 +9,7 @@ use Rattle.swc_static.specs.Drawn.{is_expression}
 use Rattle.swc_static.specs.Free.{is_folded, kind_at}
 use Rattle.swc_static.specs.Names.{label_of}
 use Rattle.swc_walk.specs.Pass.{Pass}
-use Rattle.expr_rules.specs.Defaults.{is_void}
+use Rattle.pass_rules.specs.Defaults.{is_void}
 use Rattle.branch_rules.specs.Expressions.{ExpressionStep}
 use Rattle.branch_rules.specs.Lists.{Tidied, kept_names}
 use Rattle.branch_rules.specs.Once.{DoStep}

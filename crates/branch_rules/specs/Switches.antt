@@ -6,7 +6,7 @@ use Rattle.swc_ast.specs.Value.{Value}
 use Rattle.swc_ast.specs.Operators.{prim, strict_equal}
 use Rattle.swc_ast.specs.Scope.{joined, vars_all, declared}
 use Rattle.swc_ast.specs.Weight.{weight, is_stopper, unreached}
-use Rattle.expr_rules.specs.Values.{value_of}
+use Rattle.pass_rules.specs.Values.{value_of}
 use Rattle.swc_utils.specs.Pure.{pure, no_trees}
 use Rattle.swc_static.specs.Drawn.{is_expression}
 use Rattle.swc_static.specs.Names.{label_of}

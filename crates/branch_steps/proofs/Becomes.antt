@@ -7,8 +7,8 @@ use Rattle.swc_ast.specs.Meaning.{◌>>=◌, Caller, eval, evals, run_all}
 use Rattle.swc_ast.specs.Call.{each_of, call_at}
 use Rattle.swc_meaning.specs.Exact.{Refines, Exact, ListExact}
 use Rattle.swc_utils.proofs.Refines.{refines_same, refines_then, refines_trans}
-use Rattle.expr_steps.proofs.Refines.{refines_path}
-use Rattle.expr_steps.proofs.Runs.{bind_chain, bind_same}
+use Rattle.pass_steps.proofs.Refines.{refines_path}
+use Rattle.pass_steps.proofs.Runs.{bind_chain, bind_same}
 use Rattle.swc_utils.proofs.RunEffects.{evals_joined}
 use Rattle.swc_meaning.proofs.Trees.{evals_are}
 use Rattle.branch_steps.proofs.Becoming.{Becomes}

@@ -12,8 +12,8 @@ use Rattle.swc_meaning.specs.Exact.{Refines}
 use Rattle.swc_utils.specs.Holds.{HasTruth, Keeps as Known}
 use Rattle.swc_utils.proofs.RunEffects.{drop}
 use Rattle.swc_utils.proofs.Refines.{refines_same, refines_then, refines_drop, refines_trans}
-use Rattle.expr_steps.proofs.Refines.{refines_path}
-use Rattle.expr_steps.proofs.Rewrites.{truth_keeps}
+use Rattle.pass_steps.proofs.Refines.{refines_path}
+use Rattle.pass_steps.proofs.Truths.{truth_keeps}
 use Rattle.swc_meaning.proofs.Finds.{has_cons, has_joined}
 use Rattle.branch_steps.proofs.Becoming.{Becomes, SameVars}
 use Rattle.branch_rules.specs.Jumps.{escapes, some_escape}

@@ -12,11 +12,11 @@ use Rattle.swc_ast.specs.Value.{Value, Undefined, Record, ◌▹◌, Fields, Run
 use Rattle.swc_ast.specs.Operators.{truthy, to_text, is_nullish, is_nullish_prim, prim, Prim, undefined, null, nan, object, truth, num, text, put_fields, unary_value}
 use Rattle.swc_ast.specs.Meaning.{◌>>=◌, gives, leaves, in_core, Caller, all_values, in_turn, run_all, merged, template_text, operate, short_circuits, shortened, compute, act, eval, evals}
 use Rattle.swc_utils.specs.Types.{prim_type, value_type}
-use Rattle.expr_rules.specs.Equality.{is_nullish_type}
+use Rattle.pass_rules.specs.Values.{is_nullish_type}
 use Rattle.swc_meaning.specs.Exact.{Refines}
 use Rattle.swc_utils.proofs.Refines.{refines_same, refines_drop, refines_then, refines_trans, refines_assoc, refines_chain, refines_leaves}
-use Rattle.expr_steps.proofs.Refines.{refines_path}
-use Rattle.expr_steps.proofs.Runs.{bind_chain, bind_same}
+use Rattle.pass_steps.proofs.Refines.{refines_path}
+use Rattle.pass_steps.proofs.Runs.{bind_chain, bind_same}
 use Rattle.swc_utils.proofs.Ends.{core_keeps}
 use Rattle.swc_utils.proofs.RunEffects.{drop}
 use Rattle.branch_rules.specs.Ignored.{may_skip, skips}

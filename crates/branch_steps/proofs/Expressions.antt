@@ -8,17 +8,17 @@ use Rattle.swc_ast.specs.Value.{Value, Undefined, NaN, State, Done, Run, and_the
 use Rattle.swc_ast.specs.Operators.{truthy, unary_value}
 use Rattle.swc_ast.specs.Meaning.{◌>>=◌, gives, leaves, ask, is_unresolved, read, read_bound, in_turn, run_all, act, eval, evals}
 use Rattle.swc_ast.specs.Call.{call_at}
-use Rattle.expr_rules.specs.Defaults.{is_void}
+use Rattle.pass_rules.specs.Defaults.{is_void}
 use Rattle.swc_meaning.specs.Exact.{Refined, Refines, Exact}
 use Rattle.swc_utils.proofs.Preserved.{preserve_kept}
-use Rattle.expr_steps.proofs.Defaults.{void_is_undefined}
-use Rattle.expr_steps.proofs.Places.{guarded_exact}
+use Rattle.pass_steps.proofs.Defaults.{void_is_undefined}
+use Rattle.pass_steps.proofs.Guarded.{guarded_exact}
 use Rattle.swc_meaning.proofs.Laws.{exact_trans}
 use Rattle.swc_utils.proofs.RunEffects.{evals_joined}
 use Rattle.swc_utils.proofs.Pure.{pure_is_still}
 use Rattle.swc_utils.proofs.Refines.{refines_same, refines_then, refines_drop, refines_trans}
-use Rattle.expr_steps.proofs.Refines.{refines_path}
-use Rattle.expr_steps.proofs.Runs.{bind_chain, bind_same}
+use Rattle.pass_steps.proofs.Refines.{refines_path}
+use Rattle.pass_steps.proofs.Runs.{bind_chain, bind_same}
 use Rattle.branch_rules.specs.Expressions.{always_void, is_literal_leaf, ExpressionStep, front, itself, same_arms, in_guard}
 use Rattle.branch_steps.proofs.Ignore.{ignores_all_run}
 use Rattle.branch_steps.proofs.Itself.{itself_exact}

@@ -15,9 +15,9 @@ use Rattle.swc_static.proofs.Drawn.{valid_below, weight_joined}
 use Rattle.swc_static.proofs.Expressions.{expression_step}
 use Rattle.swc_utils.proofs.Chains.{joined_none}
 use Rattle.swc_utils.specs.Effects.{preserve}
-use Rattle.expr_steps.proofs.Leftovers.{zero_made, two_made, preserve_made}
-use Rattle.expr_steps.proofs.Remains.{Remains, nothing, goes, stays, opened, made, remains_below}
-use Rattle.expr_steps.proofs.Weights.{preserve_light}
+use Rattle.pass_steps.proofs.Leftovers.{zero_made, two_made, preserve_made}
+use Rattle.pass_steps.proofs.Remains.{Remains, nothing, goes, stays, opened, made, remains_below}
+use Rattle.pass_steps.proofs.Weights.{preserve_light}
 use Rattle.branch_rules.specs.Expressions.{ExpressionStep, front, itself, same_arms, in_guard}
 use Rattle.branch_steps.proofs.IgnoredLeft.{all_good, ignores_all_left, read_stands}
 use Rattle.branch_steps.proofs.IgnoredLight.{ignores_all_light}

@@ -11,16 +11,16 @@ use Rattle.swc_ast.specs.Scope.{joined}
 use Rattle.swc_ast.specs.Meaning.{◌>>=◌, gives, call_value, make_value, is_unresolved, all_values, run_all, spread_items, array_items, merged, object_fields, template_text, operate, act, eval, evals}
 use Rattle.swc_ast.specs.Call.{call_at}
 use Rattle.swc_utils.specs.Pure.{pure, is_pure_callee}
-use Rattle.expr_rules.specs.Equality.{is_nullish_type}
+use Rattle.pass_rules.specs.Values.{is_nullish_type}
 use Rattle.swc_meaning.specs.Exact.{Refines}
 use Rattle.swc_utils.specs.Holds.{Any, Keeps, HasType}
 use Rattle.swc_utils.proofs.RunEffects.{drop, array_dropped, pure_dropped}
 use Rattle.swc_utils.proofs.Known.{truth_holds}
 use Rattle.swc_utils.proofs.Pure.{pure_is_still, calls_quiet}
 use Rattle.swc_utils.proofs.Refines.{refines_same, refines_then, refines_drop, refines_trans, refines_assoc}
-use Rattle.expr_steps.proofs.Refines.{refines_path, refines_where}
-use Rattle.expr_steps.proofs.Rewrites.{truth_keeps}
-use Rattle.expr_steps.proofs.Runs.{bind_chain, bind_same}
+use Rattle.pass_steps.proofs.Refines.{refines_path, refines_where}
+use Rattle.pass_steps.proofs.Truths.{truth_keeps}
+use Rattle.pass_steps.proofs.Runs.{bind_chain, bind_same}
 use Rattle.swc_utils.proofs.Typed.{type_holds}
 use Rattle.branch_steps.proofs.Becoming.{Becomes, left_of}
 use Rattle.branch_rules.specs.Ignored.{as_one, Opens, operand, sides, items, properties, texts, arguments, new_arguments, Ignores, stays, goes, itself, opened, sequence, right_goes, right_left, right_runs, right_skipped, never_nullish, always_nullish, items_left, properties_left, arm_runs, arms_go, second_goes, first_goes, arms_left, IgnoresAll, none_left, one_goes, one_left, one_opens, ItemsLeft, no_items, item_goes, item_left, spread_stays, hole_goes, PropertiesLeft, no_properties, property_goes, property_stays}

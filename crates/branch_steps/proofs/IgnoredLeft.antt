@@ -13,8 +13,8 @@ use Rattle.swc_static.specs.Drawn.{all_of, AllDrawn, none_drawn, more_drawn, Dra
 use Rattle.swc_static.proofs.Drawn.{valid_below, valid_joined}
 use Rattle.swc_utils.specs.Globals.{is_host_name}
 use Rattle.swc_utils.proofs.Chains.{joined_assoc, joined_none}
-use Rattle.expr_steps.proofs.Remains.{Remains, goes as tree_goes, stays as tree_stays, opened as tree_opened, made}
-use Rattle.expr_steps.proofs.Leftovers.{operator_stands, array_stands, object_stands, sequence_made}
+use Rattle.pass_steps.proofs.Remains.{Remains, goes as tree_goes, stays as tree_stays, opened as tree_opened, made}
+use Rattle.pass_steps.proofs.Leftovers.{operator_stands, array_stands, object_stands, sequence_made}
 use Rattle.branch_rules.specs.Ignored.{as_one, key_parts, property_parts, properties_parts, Opens, operand, sides, items, properties, texts, arguments, new_arguments, Ignores, stays, goes, itself, opened, sequence, right_goes, right_left, right_runs, right_skipped, never_nullish, always_nullish, items_left, properties_left, arm_runs, arms_go, second_goes, first_goes, arms_left, IgnoresAll, none_left, one_goes, one_left, one_opens, ItemsLeft, no_items, item_goes, item_left, spread_stays, hole_goes, PropertiesLeft, no_properties, property_goes, property_stays}
 use Rattle.branch_steps.proofs.Becoming.{left_of}
 

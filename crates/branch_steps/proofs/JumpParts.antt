@@ -9,7 +9,7 @@ use Rattle.swc_ast.specs.Value.{Env, Value, Undefined, ScriptThis, Function, Tok
 use Rattle.swc_ast.specs.Operators.{truthy, is_nullish, to_text, to_number, strict_equal, prim}
 use Rattle.swc_ast.specs.Scope.{Declared, case_statements}
 use Rattle.swc_ast.specs.Meaning.{◌>>=◌, gives, leaves, in_core, take_reply, ask, checked_type, is_type_name, is_unresolved, read, read_host, read_bound, held_value, cell_at, write, write_host, write_bound, write_cell, is_initialised, initialise, initialise_bound, initialise_cell, Scope, numbered, in_scope, token_text, get, put, make_value, read_this, get_at, put_at, shape0, shape1, shape2, shape3, shape1+, shape2+, all_values, in_turn, run_all, spread_items, item_values, array_items, merged, object_fields, one_field, short_circuits, shortened, operate, assign, update, in_list_scope, plain, has_label, after_jump, turn, turns, do_turns, copies, at_label, at_break, Case, cases_of, bodies_from, default_bodies, chosen, selected, switch, is_param, handled, resume, finally, try_catch, declare, copied_names, for_loop, shape_if, shape_return, template_text, type_of_name}
-use Rattle.expr_steps.proofs.Runs.{bind_chain}
+use Rattle.pass_steps.proofs.Runs.{bind_chain}
 use Rattle.branch_rules.specs.Jumps.{Kinds, in_loop, in_switch}
 use Rattle.branch_steps.proofs.Leaving.{Stays, Keeps}
 use Rattle.branch_steps.proofs.Relabelled.{relabel, Follows, copies_follow, followed, Covered, no_nearer}

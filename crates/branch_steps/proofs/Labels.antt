@@ -10,7 +10,7 @@ use Rattle.swc_ast.specs.Value.{Env, Value, Undefined, Values, Fields, nofield, 
 use Rattle.swc_ast.specs.Operators.{truthy, to_text, strict_equal, prim}
 use Rattle.swc_ast.specs.Scope.{case_statements, default_name}
 use Rattle.swc_ast.specs.Meaning.{◌>>=◌, gives, in_core, is_unresolved, read, write, initialise, Scope, numbered, in_scope, get, put, Caller, get_at, put_at, shape0, shape1, shape2, shape3, shape1+, shape2+, all_values, in_turn, run_all, item_values, array_items, merged, object_fields, key_text, operate, operator_of, assign, in_list_scope, plain, has_label, after_jump, turn, turns, do_turns, copies, at_label, at_break, Case, cases_of, bodies_from, default_bodies, chosen, selected, switch, handled, resume, finally, try_catch, declare, copied_names, first_tree, for_loop, shape_if, shape_return, template_text, type_of_name, act, eval, evals}
-use Rattle.expr_steps.proofs.Runs.{bind_same, bind_chain}
+use Rattle.pass_steps.proofs.Runs.{bind_same, bind_chain}
 use Rattle.branch_rules.specs.Jumps.{Kinds, in_loop, escapes_behind, escapes, some_escape}
 use Rattle.branch_steps.proofs.Leaving.{Stays, Keeps}
 use Rattle.branch_rules.specs.Once.{labelling}

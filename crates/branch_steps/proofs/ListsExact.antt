@@ -11,7 +11,7 @@ use Rattle.swc_ast.specs.Call.{call_at}
 use Rattle.swc_meaning.specs.Exact.{ListExact}
 use Rattle.swc_utils.proofs.Refines.{refines_same}
 use Rattle.swc_utils.proofs.RunEffects.{drop}
-use Rattle.expr_steps.proofs.Refines.{refines_path}
+use Rattle.pass_steps.proofs.Refines.{refines_path}
 use Rattle.branch_rules.specs.Lists.{is_bare, all_bare, Swept, none_swept, item_stays, empty_goes, block_opens, staying, Cut, uncut, past_item, cut_at, Tidied}
 use Rattle.branch_steps.proofs.Becoming.{Becomes}
 use Rattle.branch_steps.proofs.Becomes.{becomes_same, becomes_first, becomes_trans, becomes_list}

@@ -9,7 +9,7 @@ use Rattle.swc_meaning.specs.Exact.{Refined, Refines}
 use Rattle.swc_utils.specs.Holds.{HasTruth, Keeps, Yields}
 use Rattle.swc_utils.proofs.RunEffects.{drop}
 use Rattle.swc_utils.proofs.Refines.{refines_same, refines_then, refines_drop, refines_trans}
-use Rattle.expr_steps.proofs.Refines.{refines_path, refines_where}
+use Rattle.pass_steps.proofs.Refines.{refines_path, refines_where}
 use Rattle.branch_steps.proofs.Dropped.{dropped_first}
 
 -- what follows a part whose value is dropped

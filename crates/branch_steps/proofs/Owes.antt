@@ -8,7 +8,7 @@ use Rattle.swc_static.specs.Names.{label_of}
 use Rattle.swc_static.specs.Step.{Step}
 use Rattle.swc_static.proofs.Compose.{step_then}
 use Rattle.swc_kept.specs.Finished.{Does, at_front, at_node, at_list, at_both}
-use Rattle.expr_steps.proofs.DefaultsOwe.{default_owes}
+use Rattle.pass_steps.proofs.DefaultsOwe.{default_owes}
 use Rattle.branch_rules.specs.Lists.{Tidied, kept_names}
 use Rattle.branch_rules.specs.Once.{DoStep, do_once}
 use Rattle.branch_rules.specs.Removes.{statement, once, cases, Removes, of_expression, of_statement, of_default, followed, remove_pass}

@@ -11,7 +11,7 @@ use Rattle.swc_ast.specs.Call.{call_at}
 use Rattle.swc_meaning.specs.Exact.{Exact, ListExact}
 use Rattle.swc_utils.specs.Holds.{Is, Where}
 use Rattle.swc_utils.proofs.Refines.{refines_trans}
-use Rattle.expr_steps.proofs.Refines.{refines_path}
+use Rattle.pass_steps.proofs.Refines.{refines_path}
 use Rattle.swc_meaning.specs.Names.{Names}
 use Rattle.swc_meaning.specs.Roles.{label, is_part, holds_function, Fits, changed, SameLists}
 use Rattle.swc_meaning.proofs.Finds.{or_else, has_cons, found_cons, has_joined, found_joined}

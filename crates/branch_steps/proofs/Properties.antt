@@ -13,7 +13,7 @@ use Rattle.swc_utils.proofs.Ends.{core_keeps}
 use Rattle.swc_utils.proofs.Pure.{read_still}
 use Rattle.swc_utils.proofs.Refines.{refines_same, refines_then, refines_drop, refines_trans, refines_assoc, refines_leaves}
 use Rattle.swc_utils.proofs.RunEffects.{drop}
-use Rattle.expr_steps.proofs.Refines.{refines_path}
+use Rattle.pass_steps.proofs.Refines.{refines_path}
 use Rattle.branch_rules.specs.Ignored.{key_parts, property_parts, properties_parts}
 use Rattle.branch_steps.proofs.Becomes.{run_behind}
 use Rattle.branch_steps.proofs.Dropped.{Idle, idle_core, idle_leaves, drop_then, then_idle, made_dropped, merged_left, dropped_first}

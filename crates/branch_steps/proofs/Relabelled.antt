@@ -5,7 +5,7 @@ use Rattle.swc_ast.specs.Tree.{Text}
 use Rattle.swc_ast.specs.Value.{Value, Run, and_then, Context}
 use Rattle.swc_ast.specs.Scope.{Declared}
 use Rattle.swc_ast.specs.Meaning.{◌>>=◌, gives, in_scope, copies, has_label}
-use Rattle.expr_steps.proofs.Runs.{bind_same, bind_chain}
+use Rattle.pass_steps.proofs.Runs.{bind_same, bind_chain}
 use Rattle.branch_steps.proofs.Loops.{given}
 
 abbrev pub relabel : List (List ℕ) → Context → Context

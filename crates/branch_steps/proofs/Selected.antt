@@ -9,14 +9,14 @@ use Rattle.swc_ast.specs.Scope.{joined, declared, case_statements}
 use Rattle.swc_ast.specs.Meaning.{◌>>=◌, gives, in_core, run_all, in_list_scope, at_break, Case, case_test, cases_of, bodies_from, default_bodies, chosen, selected, switch, act, eval, evals}
 use Rattle.swc_ast.specs.Call.{call_at}
 use Rattle.swc_utils.specs.Pure.{pure}
-use Rattle.expr_rules.specs.Values.{value_of}
+use Rattle.pass_rules.specs.Values.{value_of}
 use Rattle.swc_meaning.specs.Exact.{Refines}
 use Rattle.swc_utils.specs.Holds.{Is, Keeps}
 use Rattle.swc_utils.proofs.Ends.{keeps_then, keeps_gives, core_keeps, keeps_yields}
 use Rattle.swc_utils.proofs.Pure.{pure_is_still}
 use Rattle.swc_utils.proofs.Refines.{refines_same, refines_drop, refines_trans}
-use Rattle.expr_steps.proofs.Refines.{refines_path}
-use Rattle.expr_steps.proofs.Values.{value_holds}
+use Rattle.pass_steps.proofs.Refines.{refines_path}
+use Rattle.pass_steps.proofs.Values.{value_holds}
 use Rattle.branch_rules.specs.Switches.{breaking, Clause, kinds_of, trees_of, bodies_of, switch_tree, has_test, have_tests, is_discriminant, pure_tests, no_default, Passed, none_passed, unequal, over_default}
 use Rattle.branch_rules.specs.Statements.{is_absent}
 use Rattle.branch_rules.specs.Jumps.{escapes}

@@ -18,7 +18,7 @@ use Rattle.swc_utils.specs.Known.{known_truth, of_value}
 use Rattle.swc_utils.specs.Pure.{pure}
 use Rattle.swc_utils.specs.declared.answers.ValueType.TheVariants.{Undefined as UndefinedType, Num as NumberType}
 use Rattle.swc_utils.proofs.Chains.{joined_assoc}
-use Rattle.expr_rules.specs.Values.{number_of, value_by_type, value_of}
+use Rattle.pass_rules.specs.Values.{number_of, value_by_type, value_of}
 use Rattle.swc_kept.specs.Dying.{Gives, leaf_gives, OpenRight, cases_shed}
 use Rattle.branch_rules.specs.Switches.{Clause, kinds_of, trees_of, bodies_of, switch_tree, no_default, is_fixed, FixedValue, Passed, none_passed, unequal, over_default, Selects, by_test, by_default, unlet, has_stopper, Sheds, no_case, case_stays, case_sheds, Ends, all_run, some_run, ShedStep, leading_shed, selected_shed}
 use Rattle.branch_steps.proofs.Selected.{cases, inner, cases_are, bodies_run, default_behind, default_at, known_keeps, unequal_is, equal_is, over_step}

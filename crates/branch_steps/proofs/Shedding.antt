@@ -6,7 +6,7 @@ use Rattle.swc_ast.specs.declared.VarDeclKind.TheVariants.{Var, Let, Const}
 use Rattle.swc_ast.specs.Tree.{Name, VarDecl, Tree, node, Forest, ε, ◌⊳◌}
 use Rattle.swc_ast.specs.Scope.{vars, vars_all, declared_by, declared}
 use Rattle.swc_ast.specs.Weight.{stays_behind}
-use Rattle.expr_steps.proofs.Refines.{refines_path}
+use Rattle.pass_steps.proofs.Refines.{refines_path}
 use Rattle.branch_rules.specs.Lists.{staying, Cut, uncut, past_item, cut_at, is_statement, all_statements}
 use Rattle.branch_rules.specs.Switches.{is_shed, unlet}
 use Rattle.branch_steps.proofs.Becoming.{Becomes}

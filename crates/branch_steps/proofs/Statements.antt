@@ -11,9 +11,9 @@ use Rattle.swc_utils.specs.Holds.{Is, Where}
 use Rattle.branch_steps.proofs.Undefined.{Nothing, finally_nothing}
 use Rattle.swc_utils.proofs.RunEffects.{drop}
 use Rattle.swc_utils.proofs.Known.{truth_holds}
-use Rattle.expr_steps.proofs.Rewrites.{truth_keeps, truth_tree_gives}
+use Rattle.pass_steps.proofs.Truths.{truth_keeps, truth_tree_gives}
 use Rattle.swc_utils.proofs.Refines.{refines_same, refines_then, refines_trans}
-use Rattle.expr_steps.proofs.Refines.{refines_path}
+use Rattle.pass_steps.proofs.Refines.{refines_path}
 use Rattle.branch_steps.proofs.Becoming.{Becomes}
 use Rattle.branch_rules.specs.Statements.{as_statement, Part, part_goes, part_left, StatementStep, expression, choose, else_goes, branch_goes, while_true, while_false, while_never, for_first, for_update, for_true, for_false, for_no_update, for_no_body, for_never, do_true, label_empty, label_left, block_empty, block_one, try_inside, try_beside, try_alone, try_block}
 use Rattle.branch_rules.specs.Vars.{Declares}

@@ -20,7 +20,7 @@ use Rattle.swc_static.proofs.Loops.{none_fine, more_fine, fine_kept, for_keeps}
 use Rattle.swc_static.proofs.Over.{built_keeps}
 use Rattle.swc_static.proofs.Plain.{expression_plain, statement_plain, keeps_plain, spares_plain}
 use Rattle.swc_static.proofs.Spared.{spared_same, spared_path, spared_none, spares_then}
-use Rattle.expr_steps.proofs.Remains.{nothing, remains_below}
+use Rattle.pass_steps.proofs.Remains.{nothing, remains_below}
 use Rattle.branch_rules.specs.Ignored.{Ignores}
 use Rattle.branch_rules.specs.Statements.{as_statement, is_plain, all_plain, Alone, nothing_alone, left_alone, Part, part_goes, part_left, Chooses, only_arm, no_arm, then_arm, else_arm, StatementStep, expression, choose, else_goes, branch_goes, while_true, while_false, while_never, for_first, for_update, for_true, for_false, for_no_update, for_no_body, for_never, do_true, label_empty, label_left, block_empty, block_one, try_inside, try_beside, try_alone, try_block}
 use Rattle.branch_steps.proofs.BranchForms as form

@@ -16,7 +16,7 @@ use Rattle.swc_meaning.proofs.Quiet.{fits_nothing}
 use Rattle.swc_static.specs.Drawn.{is_expression}
 use Rattle.swc_static.specs.Names.{label_of}
 use Rattle.swc_kept.specs.Plain.{NodeRight, does_same, default_goes}
-use Rattle.expr_steps.proofs.Defaults.{void_is_undefined}
+use Rattle.pass_steps.proofs.Defaults.{void_is_undefined}
 use Rattle.branch_steps.proofs.Labelled.{is_param, expression_inside}
 use Rattle.branch_rules.specs.Expressions.{ExpressionStep, front, itself, same_arms, in_guard}
 use Rattle.branch_rules.specs.Once.{DoStep, do_once, OnceRun, whole, a_jump, inside}

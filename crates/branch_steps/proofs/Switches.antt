@@ -8,13 +8,13 @@ use Rattle.swc_ast.specs.Scope.{joined, declared, Declared, found, is_found}
 use Rattle.swc_ast.specs.Meaning.{◌>>=◌, gives, Caller, in_scope, cell_of_declared, run_all, in_list_scope, at_break, Case, bodies_from, default_bodies, selected, act, eval, evals}
 use Rattle.swc_ast.specs.Call.{call_at}
 use Rattle.swc_utils.specs.Pure.{pure, no_trees}
-use Rattle.expr_rules.specs.Values.{value_of}
+use Rattle.pass_rules.specs.Values.{value_of}
 use Rattle.swc_meaning.specs.Exact.{Refined, Refines}
 use Rattle.swc_utils.specs.Holds.{Quiet, Keeps}
 use Rattle.swc_utils.proofs.RunEffects.{drop}
 use Rattle.swc_utils.proofs.Refines.{refines_same, refines_then, refines_drop, refines_trans, refines_assoc}
-use Rattle.expr_steps.proofs.Refines.{refines_path, refines_where}
-use Rattle.expr_steps.proofs.Values.{value_holds}
+use Rattle.pass_steps.proofs.Refines.{refines_path, refines_where}
+use Rattle.pass_steps.proofs.Values.{value_holds}
 use Rattle.swc_meaning.proofs.ListRules.{in_nothing}
 use Rattle.branch_steps.proofs.Becoming.{Becomes}
 use Rattle.branch_rules.specs.Switches.{is_discriminant, Clause, bodies_of, switch_tree, have_tests, pure_tests, no_default, all_empty, starts_with_break, nothing_runs, Passed, Unbroken, SwitchStep, nothing_left, only_default, only_default_apart, selected_case, selected_default, none_selected, leading_go}

@@ -13,7 +13,7 @@ use Rattle.swc_meaning.specs.Exact.{Refines}
 use Rattle.swc_utils.proofs.RunEffects.{drop}
 use Rattle.swc_utils.proofs.Known.{truth_holds}
 use Rattle.swc_utils.proofs.Refines.{refines_same, refines_then, refines_trans, refines_assoc}
-use Rattle.expr_steps.proofs.Refines.{refines_path, refines_where}
+use Rattle.pass_steps.proofs.Refines.{refines_path, refines_where}
 use Rattle.branch_rules.specs.Statements.{gives_nothing, all_give_nothing, Alone, nothing_alone, left_alone, Chooses, only_arm, no_arm, then_arm, else_arm}
 use Rattle.branch_rules.specs.Vars.{Declares}
 use Rattle.branch_steps.proofs.Becomes.{run_behind}

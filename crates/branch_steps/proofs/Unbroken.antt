@@ -9,7 +9,7 @@ use Rattle.swc_ast.specs.Meaning.{◌>>=◌, gives, run_all, at_break, act, eval
 use Rattle.swc_ast.specs.Call.{call_at}
 use Rattle.swc_ast.specs.Weight.{is_stopper}
 use Rattle.swc_meaning.specs.Exact.{Refines}
-use Rattle.expr_steps.proofs.Refines.{refines_path}
+use Rattle.pass_steps.proofs.Refines.{refines_path}
 use Rattle.swc_meaning.proofs.DeadCode.{stopped}
 use Rattle.branch_rules.specs.Jumps.{Kinds, escapes, some_escape}
 use Rattle.branch_steps.proofs.Leaving.{Stays, Keeps}

@@ -20,7 +20,7 @@ use Rattle.swc_ast.proofs.Equations.{case_trees-is, switch_tree-is}
 use Rattle.swc_static.specs.Drawn.{is_expression}
 use Rattle.swc_static.specs.Names.{label_of}
 use Rattle.swc_utils.proofs.Chains.{joined_assoc}
-use Rattle.expr_steps.proofs.ExprTrees.{is_an_expression}
+use Rattle.pass_steps.proofs.ExprTrees.{is_an_expression}
 use Rattle.branch_rules.specs.Jumps.{escapes}
 use Rattle.branch_rules.specs.Removes.{Rests, cases}
 use Rattle.branch_rules.specs.Statements.{is_absent}

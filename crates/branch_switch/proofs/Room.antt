@@ -20,7 +20,7 @@ use Rattle.swc_ast.specs.Weight.{own_weight, weight, weight_all}
 use Rattle.swc_ast.proofs.ApartStatements.{StmtForm, stmt_form, stmt_number, stmt_at}
 use Rattle.swc_ast.proofs.Equations.{stmt_tree-Labeled}
 use Rattle.swc_ast.proofs.Labels.{label}
-use Rattle.expr_rules.specs.Values.{value_of}
+use Rattle.pass_rules.specs.Values.{value_of}
 use Rattle.branch_rules.specs.Statements.{as_statement}
 use Rattle.branch_rules.specs.Switches.{Clause, switch_tree, trees_of, bodies_of, no_default, Passed, unequal, over_default}
 use Rattle.branch_rules.specs.Vars.{each_once, Unset, no_more, one_more, Declares, none_declared, some_declared}

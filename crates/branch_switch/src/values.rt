@@ -4,7 +4,7 @@ ghost use Rattle.swc_ast.specs.Operators.{int_eq, numeric_equal, prim, strict_eq
 ghost use Rattle.swc_ast.specs.Views.{expr_tree};
 ghost use Rattle.swc_utils.specs.Globals.{unresolved};
 ghost use Rattle.swc_utils.specs.Known.{number, text, truth};
-ghost use Rattle.expr_rules.specs.Values as rules;
+ghost use Rattle.pass_rules.specs.Values as rules;
 ghost use Rattle.branch_rules.specs.Switches.{FixedValue, is_fixed as tree_is_fixed};
 ghost use Rattle.branch_switch.specs.Values.{value_in};
 

@@ -15,8 +15,8 @@ use Rattle.swc_ast.proofs.Places.{at_expr-Assign}
 use Rattle.swc_static.specs.Drawn.{is_expression}
 use Rattle.swc_static.specs.Names.{label_of}
 use Rattle.swc_utils.specs.Pure.{pure}
-use Rattle.expr_rules.specs.Leaves.{guarded}
-use Rattle.expr_steps.proofs.ExprTrees.{is_an_expression}
+use Rattle.pass_rules.specs.Leaves.{guarded}
+use Rattle.pass_steps.proofs.ExprTrees.{is_an_expression}
 use Rattle.dce_rules.specs.Shakes.{Shaker, Opens, value, shielded}
 use Rattle.dce_code.specs.Assignments.{Unread, unread}
 

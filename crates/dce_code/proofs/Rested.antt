@@ -23,7 +23,7 @@ use Rattle.swc_ast.proofs.Equations.{stmt_tree-Block, stmt_tree-Empty, stmt_tree
 use Rattle.swc_ast.specs.declared.declarations.Decl.TheViews.{roll-Stmt, out-Stmt, roll-out-Stmt}
 use Rattle.swc_static.specs.Drawn.{is_expression}
 use Rattle.swc_static.specs.Names.{label_of, trees_of}
-use Rattle.expr_steps.proofs.ExprTrees.{is_an_expression}
+use Rattle.pass_steps.proofs.ExprTrees.{is_an_expression}
 use Rattle.dce_rules.specs.Shakes.{Shaker, node_rests, Rests}
 
 abbrev own : Shaker → Tree → Bool

@@ -7,7 +7,7 @@ use Rattle.swc_walk.specs.Parts.{stands_alone}
 use Rattle.swc_walk.specs.Walks.{Fits}
 use Rattle.swc_walk.specs.declared.rules.Place.{Place}
 use Rattle.swc_walk.specs.declared.rules.Place.TheVariants as place
-use Rattle.expr_rules.specs.Leaves.{guarded}
+use Rattle.pass_rules.specs.Leaves.{guarded}
 
 guard_alone : (p : Place) (rs zs : List Span) (t : Tree) → stands_alone p (guarded rs zs t) ≡ true
 guard_alone place.Callee rs zs t = refl

@@ -5,7 +5,7 @@ ghost use Rattle.swc_ast.specs.Views.{expr_tree};
 ghost use Rattle.swc_ast.specs.declared.Span.{Span};
 ghost use Rattle.swc_ast.specs.declared.expressions.Expr.{size-Expr};
 ghost use Rattle.swc_walk.specs.Walks.{Fits, Opened};
-ghost use Rattle.expr_rules.specs.Leaves.{guarded};
+ghost use Rattle.pass_rules.specs.Leaves.{guarded};
 ghost use Rattle.swc_utils.specs.Pure.{pure};
 ghost use Rattle.dce_rules.specs.Shakes.{Opens, shake_pass};
 ghost use Rattle.dce_code.specs.Knowledge.{shaker};
@@ -13,7 +13,7 @@ ghost use Rattle.dce_code.specs.Assignments.{Unread};
 
 use crate::known::Known;
 use crate::places::take_expr;
-use expr_places::shield;
+use pass_places::shield;
 use std::alloc::{AllocError, Global};
 use swc_ast::{AssignExpr, AssignOp, AssignTarget, Expr};
 use swc_utils::ExprExt;

@@ -12,7 +12,7 @@ use Rattle.swc_static.specs.Drawn.{is_expression}
 use Rattle.swc_static.specs.Names.{label_of, trees_of, is_some_tree}
 use Rattle.swc_walk.specs.Pass.{Pass}
 use Rattle.swc_kept.specs.Meant.{Sifts}
-use Rattle.expr_rules.specs.Leaves.{guarded}
+use Rattle.pass_rules.specs.Leaves.{guarded}
 use Rattle.dce_rules.specs.Left.{any_of, declared_plainly}
 
 -- what the shaker knows of the module that it walks

@@ -13,7 +13,7 @@ use Rattle.swc_meaning.proofs.Names.{same_itself, other_name'}
 use Rattle.swc_meaning.proofs.Drops.{Unread}
 use Rattle.swc_meaning.proofs.Loose.{LooseName}
 use Rattle.swc_meaning.proofs.Slack.{SlackName}
-use Rattle.expr_rules.specs.Leaves.{guarded}
+use Rattle.pass_rules.specs.Leaves.{guarded}
 use Rattle.dce_rules.specs.Uses.{read_by, read_in, read_among}
 use Rattle.dce_steps.proofs.Walked.{Stands, gone, is_left, names}
 

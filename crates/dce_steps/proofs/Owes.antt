@@ -24,7 +24,7 @@ use Rattle.swc_static.proofs.Spared.{spared_same, spared_path, spared_then, spar
 use Rattle.swc_kept.specs.Finished.{Does, at_front, at_node, at_list, at_both}
 use Rattle.swc_kept.specs.Meant.{Sifts, sifted, stays_there, goes_there}
 use Rattle.swc_utils.specs.Pure.{pure}
-use Rattle.expr_rules.specs.Leaves.{guarded}
+use Rattle.pass_rules.specs.Leaves.{guarded}
 use Rattle.dce_rules.specs.Left.{any_of, is_plain_value}
 use Rattle.dce_rules.specs.Shakes.{Shaker, Early, Opens, value, shielded, value_of_value, declarators_open, declaration_opens, goes_plainly, all_go, Goes, Leaves, nothing_left, goes_with_value, value_left, as_statement, import_goes, Shakes, declarators_go, declaration_goes, specifiers_go, call_gives, item_goes, ItemGoes, items_go, shake_pass}
 use Rattle.dce_steps.proofs.Dropping.{MayGo, Drops as Dropping, none_dropped, item_kept, item_dropped, Thins, none_thinned, tree_kept, tree_dropped, DropStep, drop_items, drop_declarators, only_values, no_values, drop_specifiers, only_value, call_object}

@@ -18,7 +18,7 @@ use Rattle.swc_meaning.proofs.Quiet.{declares_nothing, fits_nothing}
 use Rattle.swc_meaning.proofs.Loose.{assign_loose}
 use Rattle.swc_meaning.proofs.Idles.{idle_function, idle_import, function_declares, import_declares, expression_declares}
 use Rattle.swc_utils.proofs.Refines.{refines_same}
-use Rattle.expr_rules.specs.Leaves.{guarded}
+use Rattle.pass_rules.specs.Leaves.{guarded}
 use Rattle.dce_rules.specs.Shakes.{object_call}
 use Rattle.dce_steps.proofs.Walked.{names, Stands, Moves, value_alone, value_guarded, Walked, same_node, same_list, same_import, declaration, first_values, opened, called, Each, none, more, Items, no_item, item, function_goes, nothing_goes, import_goes, Declarators, no_declarator, declarator, unset_goes, early_goes, value_goes, value_left}
 use Rattle.dce_steps.proofs.Names.{Unused, AllUnused, goes, loosened, first_unused, rest_unused, value_unused, guarded_unused, below, clean}

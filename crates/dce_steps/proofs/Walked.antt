@@ -14,7 +14,7 @@ use Rattle.swc_static.specs.Names.{label_of}
 use Rattle.swc_meaning.specs.Roles.{is_plain, is_list, Scoped, SameSlack}
 use Rattle.swc_meaning.specs.Names.{Names}
 use Rattle.swc_meaning.specs.Rewrites.{SameExports}
-use Rattle.expr_rules.specs.Leaves.{guarded}
+use Rattle.pass_rules.specs.Leaves.{guarded}
 use Rattle.dce_rules.specs.Shakes.{NamesOnly, object_call, as_statement}
 
 -- names that go (G) of which no declaration is left (K)

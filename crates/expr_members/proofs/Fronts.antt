@@ -9,7 +9,7 @@ use Rattle.swc_ast.specs.Expressions.{item_kind, item_trees, seq_tree}
 use Rattle.swc_ast.specs.declared.Span.{Span}
 use Rattle.swc_ast.specs.declared.expressions.SeqExpr.{SeqExpr}
 use Rattle.expr_rules.specs.ExprSteps.{ExprStep, front}
-use Rattle.expr_rules.specs.Leaves.{as_sequence}
+use Rattle.pass_rules.specs.Leaves.{as_sequence}
 use Rattle.swc_ast.specs.declared.expressions.Expr.{Expr}
 use Rattle.swc_ast.specs.declared.expressions.ExprOrSpread.{ExprOrSpread}
 use Rattle.swc_utils.specs.Literals.{is_literal}

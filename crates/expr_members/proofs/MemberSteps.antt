@@ -21,7 +21,7 @@ use Rattle.swc_ast.specs.declared.expressions.MemberProp.TheVariants as prop
 use Rattle.swc_utils.specs.Pure.{has_spread, pure_all}
 use Rattle.swc_keys.specs.Keys.{are_keys, keys_of}
 use Rattle.expr_rules.specs.ExprSteps.{ExprStep, MemberOf, by_dot, by_key, text_length, text_character, array_length, array_item, object_value}
-use Rattle.expr_rules.specs.Leaves.{key_text_of, void_tree}
+use Rattle.pass_rules.specs.Leaves.{key_text_of, void_tree}
 use Rattle.expr_rules.specs.Members.{all_basic, array_at, character, text_at, value_named}
 use Rattle.expr_members.specs.Members.{StandsFor, IsKey, IsLength, IsCharacter, IsItem, character_at}
 use Rattle.expr_members.proofs.Opened.{Item, kinds_of, trees_of}

@@ -16,7 +16,7 @@ use Rattle.swc_ast.specs.declared.expressions.ExprOrSpread.{ExprOrSpread}
 use Rattle.swc_ast.proofs.Equations.{expr_tree-Array}
 use Rattle.swc_utils.proofs.Chains.{joined_none}
 use Rattle.expr_rules.specs.ExprSteps.{ExprStep, spread_array}
-use Rattle.expr_rules.specs.Leaves.{void_tree}
+use Rattle.pass_rules.specs.Leaves.{void_tree}
 use Rattle.expr_rules.specs.Spreads.{filled_kinds, filled_items, spread_kinds, spread_trees, opened_kinds, opened_items, is_array, spreads_array}
 use Rattle.expr_members.specs.Arrays.{HasItems}
 

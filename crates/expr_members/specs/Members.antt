@@ -11,7 +11,7 @@ use Rattle.swc_ast.specs.declared.expressions.ExprOrSpread.{ExprOrSpread}
 use Rattle.swc_ast.specs.declared.expressions.MemberProp.{MemberProp}
 use Rattle.swc_utils.specs.Effects.{effects_all, preserve}
 use Rattle.expr_rules.specs.ExprSteps.{ExprStep, MemberOf}
-use Rattle.expr_rules.specs.Leaves.{text_tree, void_tree}
+use Rattle.pass_rules.specs.Leaves.{text_tree, void_tree}
 use Rattle.expr_rules.specs.Members.{all_basic, character}
 
 -- an expression that may take the place of member k of one of tree o

@@ -5,7 +5,7 @@ ghost use Rattle.swc_ast.specs.Parts.{list_trees};
 ghost use Rattle.swc_ast.specs.Scope.{joined};
 ghost use Rattle.swc_ast.specs.Views.{expr_tree};
 ghost use Rattle.swc_utils.specs.Pure.{has_spread as kinds_have_spread};
-ghost use Rattle.expr_rules.specs.Leaves.{void_tree};
+ghost use Rattle.pass_rules.specs.Leaves.{void_tree};
 ghost use Rattle.expr_rules.specs.Spreads.{is_array as tree_is_array};
 ghost use Rattle.expr_members.specs.Arrays.{is_plain_array as tree_is_plain_array, HasItems};
 

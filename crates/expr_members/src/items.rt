@@ -6,7 +6,7 @@ ghost use Rattle.swc_ast.specs.Views.{expr_tree};
 ghost use Rattle.swc_utils.specs.Effects.{effects_all, preserve};
 ghost use Rattle.swc_utils.specs.Globals.{unresolved};
 ghost use Rattle.swc_utils.specs.Pure.{has_spread as kinds_have_spread, pure_all};
-ghost use Rattle.expr_rules.specs.Leaves.{void_tree};
+ghost use Rattle.pass_rules.specs.Leaves.{void_tree};
 ghost use Rattle.expr_rules.specs.Members.{array_at};
 ghost use Rattle.expr_members.specs.Members.{item_value as tree_item_value, IsItem, IsLength, StandsFor};
 

@@ -3,7 +3,7 @@ ghost use Rattle.std.specs.Prelude.{◌≡◌, Some, string_bytes, IfOk, IfSome}
 ghost use Rattle.swc_ast.specs.Operators as operators;
 ghost use Rattle.swc_ast.specs.Parts.{lit_tree};
 ghost use Rattle.swc_ast.specs.Views.{expr_tree};
-ghost use Rattle.expr_rules.specs.Leaves.{key_text_of};
+ghost use Rattle.pass_rules.specs.Leaves.{key_text_of};
 ghost use Rattle.expr_members.specs.Members.{IsKey, IsLength};
 
 use std::alloc::{AllocError, Global};

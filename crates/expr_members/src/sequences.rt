@@ -7,7 +7,7 @@ ghost use Rattle.swc_ast.specs.Expressions.{seq_tree};
 ghost use Rattle.swc_ast.specs.Views.{expr_tree};
 ghost use Rattle.swc_utils.specs.Globals.{unresolved};
 ghost use Rattle.swc_utils.specs.Literals.{is_literal as tree_is_literal};
-ghost use Rattle.expr_rules.specs.Leaves.{as_sequence};
+ghost use Rattle.pass_rules.specs.Leaves.{as_sequence};
 ghost use Rattle.expr_rules.specs.Replaced.{Replaced};
 ghost use Rattle.expr_rules.specs.Sequences.{is_bound_name as tree_is_bound_name, folds as tree_folds, some_folds as tree_some_folds, front_item, front_folded};
 ghost use Rattle.expr_members.specs.Fronts.{any_folds as any_tree_folds, all_folded};

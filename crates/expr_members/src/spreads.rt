@@ -3,7 +3,7 @@ ghost use Rattle.std.specs.Prelude.{◌≡◌, ℕ, false, [], ◌∷◌, ◌++�
 ghost use Rattle.swc_ast.specs.Scope.{joined};
 ghost use Rattle.swc_ast.specs.Expressions.{array_tree, item_kind, item_trees};
 ghost use Rattle.swc_ast.specs.Views.{expr_tree};
-ghost use Rattle.expr_rules.specs.Leaves.{void_tree};
+ghost use Rattle.pass_rules.specs.Leaves.{void_tree};
 ghost use Rattle.expr_rules.specs.Replaced.{Replaced};
 ghost use Rattle.expr_rules.specs.Spreads.{filled_kinds, filled_items, opened_kinds, opened_items, spreads_array as kinds_spread_array};
 

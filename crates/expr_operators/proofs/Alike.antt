@@ -7,7 +7,7 @@ use Rattle.swc_utils.specs.Pure.{pure}
 use Rattle.swc_utils.specs.Types.{type_of}
 use Rattle.swc_utils.specs.declared.answers.ValueType.TheVariants.{Bool as TruthType}
 use Rattle.expr_rules.specs.Equality.{alike_known, compared, equal_values, may_compare}
-use Rattle.expr_rules.specs.Values.{truth_of_known, value_by_type, value_of}
+use Rattle.pass_rules.specs.Values.{truth_of_known, value_by_type, value_of}
 
 truth_value : (mark : ℕ) (t : Tree) → type_of mark t ≡ Some TruthType → value_of mark t ≡ truth_of_known (truth mark t)
 truth_value mark t h = ap (λ k. value_by_type k (truth mark t) (number mark t) (text mark t)) h

@@ -14,7 +14,7 @@ use Rattle.expr_rules.specs.Arithmetic.{admits, fold_numbers, fold_sum, fold_tex
 use Rattle.expr_rules.specs.Choices.{chosen_arm, chosen_side, decided, is_logical}
 use Rattle.expr_rules.specs.Equality.{equal_known, is_equality, tells}
 use Rattle.expr_rules.specs.ExprSteps.{ExprStep, join_texts, add_numbers, compute_numbers, equality, logical, choice, power_zero, regroup, instance}
-use Rattle.expr_rules.specs.Leaves.{number_tree, text_tree, truth_tree}
+use Rattle.pass_rules.specs.Leaves.{number_tree, text_tree, truth_tree}
 use Rattle.expr_operators.specs.Steps.{TruthStep}
 use Rattle.expr_operators.proofs.UnarySteps.{step_to}
 

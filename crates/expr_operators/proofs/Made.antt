@@ -5,7 +5,7 @@ use Rattle.swc_ast.specs.Expressions.{unary_node}
 use Rattle.swc_ast.specs.declared.Span.{Span}
 use Rattle.swc_ast.specs.declared.UnaryOp.TheVariants as op
 use Rattle.swc_utils.specs.Sound.{numeric}
-use Rattle.expr_rules.specs.Leaves.{number_tree, void_tree}
+use Rattle.pass_rules.specs.Leaves.{number_tree, void_tree}
 
 pub number_made : (mark : ℕ) (ss : List Span) (o : Option ℤ) (z k : ℤ) → k ≡ z → o ≡ Some z → node (NumLit k) ss ε ≡ number_tree mark ss (numeric o)
 number_made mark ss o z k h is = ap (λ x. node (NumLit x) ss ε) h ∙ sym (ap (λ x. number_tree mark ss (numeric x)) is)

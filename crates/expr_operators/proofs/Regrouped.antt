@@ -14,7 +14,7 @@ use Rattle.swc_utils.specs.declared.answers.Value.{Value as Answer}
 use Rattle.swc_utils.specs.declared.answers.Value.TheVariants.{Known, Unknown}
 use Rattle.expr_rules.specs.Arithmetic.{admits, fold_numbers, regroups}
 use Rattle.expr_rules.specs.ExprSteps.{ExprStep}
-use Rattle.expr_rules.specs.Leaves.{number_tree}
+use Rattle.pass_rules.specs.Leaves.{number_tree}
 use Rattle.expr_operators.specs.Steps.{Regroups}
 use Rattle.expr_operators.proofs.BinarySteps.{regroup_step}
 use Rattle.expr_operators.proofs.UnarySteps.{step_to}

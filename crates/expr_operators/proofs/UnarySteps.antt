@@ -17,8 +17,8 @@ use Rattle.swc_utils.specs.Globals.{constant, is_undefined, name_value}
 use Rattle.swc_utils.specs.Known.{minus, number, truth}
 use Rattle.swc_utils.specs.Pure.{pure}
 use Rattle.expr_rules.specs.ExprSteps.{ExprStep, not_known, plus_known, minus_known, tilde_known, void_pure, typeof_expression, typeof_constant}
-use Rattle.expr_rules.specs.Leaves.{number_tree, text_tree, truth_tree, void_tree}
-use Rattle.expr_rules.specs.Values.{typeof_known}
+use Rattle.pass_rules.specs.Leaves.{number_tree, text_tree, truth_tree, void_tree}
+use Rattle.expr_rules.specs.TypeNames.{typeof_known}
 
 -- a step to the tree of an expression
 pub step_to : (mark : ℕ) (t u : Tree) (e : Expr) → expr_tree e ≡ u → ExprStep mark t u → ExprStep mark t (expr_tree e)

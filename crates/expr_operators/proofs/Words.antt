@@ -13,7 +13,7 @@ use Rattle.swc_ast.specs.declared.literals.Lit.{Lit}
 use Rattle.swc_ast.specs.declared.literals.Lit.TheVariants as lit
 use Rattle.swc_utils.specs.Known.{lit_value}
 use Rattle.swc_utils.specs.Literals.{is_literal}
-use Rattle.expr_rules.specs.Values.{typeof_known}
+use Rattle.expr_rules.specs.TypeNames.{typeof_known}
 
 pub literal_word : (mark : ℕ) (n : Lit) → typeof_known mark (lit_tree n) ≡ Some (type_name (lit_value n))
 literal_word mark (lit.Str n) = refl

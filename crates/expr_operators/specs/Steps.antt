@@ -9,7 +9,7 @@ use Rattle.swc_ast.specs.declared.expressions.Expr.{Expr}
 use Rattle.swc_ast.specs.declared.expressions.Expr.TheVariants.{Bin}
 use Rattle.swc_ast.specs.declared.Span.{Span}
 use Rattle.expr_rules.specs.ExprSteps.{ExprStep}
-use Rattle.expr_rules.specs.Leaves.{number_tree, truth_tree}
+use Rattle.pass_rules.specs.Leaves.{number_tree, truth_tree}
 
 -- what takes the place of a node by one of the rules, if anything does
 abbrev pub Stands : ℕ → Tree → Option Expr → Type 0

@@ -7,7 +7,7 @@ ghost use Rattle.swc_utils.specs.Globals.{unresolved};
 ghost use Rattle.swc_utils.specs.Sound.{known, known_number, known_text, numeric};
 ghost use Rattle.swc_utils.specs.Types.{same_type, type_of};
 ghost use Rattle.expr_rules.specs.Equality as rules;
-ghost use Rattle.expr_rules.specs.Values.{number_of, text_value, truth_of_known};
+ghost use Rattle.pass_rules.specs.Values.{is_nullish_type, number_of, text_value, truth_of_known};
 ghost use Rattle.expr_operators.specs.Nodes.{binary_of};
 ghost use Rattle.expr_operators.specs.Steps.{Stands};
 
@@ -149,7 +149,7 @@ fn is_same_type(a: ValueType, b: ValueType) -> bool
 }
 
 fn is_nullish(kind: ValueType) -> bool
-    ensures { result ≡ rules.is_nullish_type kind }
+    ensures { result ≡ is_nullish_type kind }
 {
     match kind {
         ValueType::Undefined | ValueType::Null => true,

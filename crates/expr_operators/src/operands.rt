@@ -5,7 +5,7 @@ ghost use Rattle.swc_ast.specs.Views.{expr_tree};
 ghost use Rattle.swc_utils.specs.Effects.{effects_all, preserve};
 ghost use Rattle.swc_utils.specs.Globals.{unresolved};
 ghost use Rattle.swc_utils.specs.Sound.{numeric};
-ghost use Rattle.expr_rules.specs.Leaves as leaves;
+ghost use Rattle.pass_rules.specs.Leaves as leaves;
 
 use std::alloc::{AllocError, Global};
 use std::mem;

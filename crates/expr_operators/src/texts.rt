@@ -8,7 +8,7 @@ ghost use Rattle.swc_utils.specs.Sound.{IfKnown, known_text};
 ghost use Rattle.swc_utils.specs.Types as types;
 ghost use Rattle.swc_utils.specs.declared.answers.ValueType.TheVariants.{Str as TextType};
 ghost use Rattle.expr_rules.specs.Equality.{compared, no_vertical_tab};
-ghost use Rattle.expr_rules.specs.Values.{text_value};
+ghost use Rattle.pass_rules.specs.Values.{text_value};
 
 use std::alloc::{AllocError, Global};
 use swc_ast::{Expr, PassError};

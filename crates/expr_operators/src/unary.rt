@@ -10,7 +10,7 @@ ghost use Rattle.swc_utils.specs.Globals.{unresolved};
 ghost use Rattle.swc_utils.specs.Known.{lit_value, minus};
 ghost use Rattle.swc_utils.specs.Sound.{known_number};
 ghost use Rattle.expr_rules.specs.Replaced.{Replaced, expr_redex};
-ghost use Rattle.expr_rules.specs.Values.{typeof_known};
+ghost use Rattle.expr_rules.specs.TypeNames.{typeof_known};
 ghost use Rattle.expr_operators.specs.Nodes.{unary_at, unary_of};
 ghost use Rattle.expr_operators.specs.Steps.{Stands};
 

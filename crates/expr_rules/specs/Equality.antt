@@ -11,7 +11,7 @@ use Rattle.swc_utils.specs.Pure.{pure}
 use Rattle.swc_utils.specs.Types.{same_type, type_of}
 use Rattle.swc_utils.specs.declared.answers.ValueType.{ValueType}
 use Rattle.swc_utils.specs.declared.answers.ValueType.TheVariants.{Bool as TruthType, Null as NullType, Obj as ObjectType, Undefined as UndefinedType}
-use Rattle.expr_rules.specs.Values.{value_of}
+use Rattle.pass_rules.specs.Values.{is_nullish_type, value_of}
 
 -- `==`, `!=`, `===` and `!==`
 abbrev pub is_equality : BinaryOp → Bool
@@ -78,12 +78,6 @@ strict_by_types mark a b σ τ = None
 -- `===`: a side is NaN, the types are known and differ, or both values are known
 abbrev pub strict_known : ℕ → Tree → Tree → Option Bool
 strict_known mark a b = if is_nan_side mark a b then Some false else strict_by_types mark a b (type_of mark a) (type_of mark b)
-
--- undefined or null
-abbrev pub is_nullish_type : ValueType → Bool
-is_nullish_type UndefinedType = true
-is_nullish_type NullType = true
-is_nullish_type _ = false
 
 -- an object
 abbrev pub is_object_type : ValueType → Bool

@@ -16,9 +16,9 @@ use Rattle.swc_utils.specs.declared.answers.ValueType.TheVariants.{Str as TextTy
 use Rattle.swc_utils.specs.Types.{type_of, is_text_type}
 use Rattle.swc_utils.specs.Globals.{name_value}
 use Rattle.swc_utils.specs.Effects.{effects, effects_all, preserve}
-use Rattle.expr_rules.specs.Values.{typeof_known}
+use Rattle.expr_rules.specs.TypeNames.{typeof_known}
 use Rattle.expr_rules.specs.Equality.{is_equality, equal_known, tells}
-use Rattle.expr_rules.specs.Leaves.{text_tree, void_tree, guarded, key_text_of, number_tree, truth_tree, as_sequence}
+use Rattle.pass_rules.specs.Leaves.{text_tree, void_tree, guarded, key_text_of, number_tree, truth_tree, as_sequence}
 use Rattle.expr_rules.specs.Arithmetic.{admits, fold_texts, fold_sum, regroups, fold_numbers}
 use Rattle.expr_rules.specs.Choices.{chosen_arm, is_logical, chosen_side}
 use Rattle.expr_rules.specs.Members.{text_at, array_at, value_named}

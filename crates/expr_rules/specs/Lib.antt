@@ -1,5 +1,4 @@
-pub mod Values
-pub mod Leaves
+pub mod TypeNames
 pub mod Arithmetic
 pub mod Comparisons
 pub mod Equality
@@ -7,6 +6,5 @@ pub mod Choices
 pub mod Sequences
 pub mod Members
 pub mod Spreads
-pub mod Defaults
 pub mod ExprSteps
 pub mod Replaced

@@ -19,9 +19,9 @@ use Rattle.swc_utils.specs.Holds.{Is, Yields}
 use Rattle.swc_utils.proofs.Ends.{yields_then, yields_gives, yields_both}
 use Rattle.swc_utils.proofs.Known.{number_holds, number_pure}
 use Rattle.swc_utils.proofs.Typed.{type_holds, text_by_type}
-use Rattle.expr_rules.specs.Leaves.{truth_tree}
+use Rattle.pass_rules.specs.Leaves.{truth_tree}
 use Rattle.expr_rules.specs.Comparisons.{compares, is_comparison}
-use Rattle.expr_steps.proofs.Rewrites.{truth_tree_gives}
+use Rattle.pass_steps.proofs.Truths.{truth_tree_gives}
 use Rattle.expr_steps.proofs.Folds.{pure_constant}
 
 -- what has a known number has a known type

@@ -16,8 +16,8 @@ use Rattle.swc_utils.proofs.Known.{truth_holds}
 use Rattle.swc_utils.proofs.Refines.{refines_then, refines_trans}
 use Rattle.swc_utils.proofs.RunEffects.{drop, effects_kept}
 use Rattle.swc_utils.proofs.Preserved.{preserve_kept}
-use Rattle.expr_rules.specs.Leaves.{truth_tree}
-use Rattle.expr_steps.proofs.Rewrites.{truth_tree_gives}
+use Rattle.pass_rules.specs.Leaves.{truth_tree}
+use Rattle.pass_steps.proofs.Truths.{truth_tree_gives}
 
 -- the tree has this value, in each state
 abbrev pub Gives : ℕ → Tree → Value → Type 0

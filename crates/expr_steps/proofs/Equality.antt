@@ -21,11 +21,12 @@ use Rattle.swc_utils.specs.Holds.{Is, Yields}
 use Rattle.swc_utils.proofs.Ends.{yields_then, yields_map, yields_both, yields_in_core, any}
 use Rattle.swc_utils.proofs.Known.{number_holds}
 use Rattle.swc_utils.proofs.Typed.{type_holds}
-use Rattle.expr_rules.specs.Values.{value_by_type, value_of}
-use Rattle.expr_rules.specs.Equality.{is_equality, is_strict_equality, tells, may_compare, compared, equal_values, alike_known, is_nan_side, strict_by_types, strict_known, is_nullish_type, is_object_type, loose_apart, loose_by_types, loose_known, equal_known}
-use Rattle.expr_rules.specs.Leaves.{truth_tree}
-use Rattle.expr_steps.proofs.Values.{value_holds}
-use Rattle.expr_steps.proofs.Rewrites.{truth_tree_gives, strict_differ}
+use Rattle.pass_rules.specs.Values.{value_by_type, value_of, is_nullish_type}
+use Rattle.expr_rules.specs.Equality.{is_equality, is_strict_equality, tells, may_compare, compared, equal_values, alike_known, is_nan_side, strict_by_types, strict_known, is_object_type, loose_apart, loose_by_types, loose_known, equal_known}
+use Rattle.pass_rules.specs.Leaves.{truth_tree}
+use Rattle.pass_steps.proofs.Values.{value_holds}
+use Rattle.pass_steps.proofs.Truths.{truth_tree_gives}
+use Rattle.expr_steps.proofs.Rewrites.{strict_differ}
 use Rattle.expr_steps.proofs.Constant.{constant_exact}
 use Rattle.expr_steps.proofs.Special.{nan_left, nan_right}
 

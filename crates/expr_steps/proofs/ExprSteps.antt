@@ -17,9 +17,9 @@ use Rattle.swc_utils.specs.Types.{type_of}
 use Rattle.swc_utils.specs.declared.answers.ValueType.TheVariants.{Str as TextType}
 use Rattle.swc_utils.specs.Effects.{is_strict, preserve}
 use Rattle.swc_utils.proofs.Known.{text_pure}
-use Rattle.expr_rules.specs.Values.{value_by_type, value_of}
+use Rattle.pass_rules.specs.Values.{value_by_type, value_of}
 use Rattle.expr_rules.specs.ExprSteps.{MemberOf, by_dot, by_key, ExprStep, not_known, plus_known, minus_known, tilde_known, void_pure, typeof_expression, typeof_constant, join_texts, add_numbers, compute_numbers, power_zero, regroup, compare_known, compare_texts, compare_name, compare_type, equality, instance, logical, choice, front, spread_array, spread_object, text_length, text_character, array_length, array_item, object_value, in_guard}
-use Rattle.expr_rules.specs.Leaves.{text_tree, void_tree, number_tree, truth_tree, as_sequence}
+use Rattle.pass_rules.specs.Leaves.{text_tree, void_tree, number_tree, truth_tree, as_sequence}
 use Rattle.expr_rules.specs.Comparisons.{is_comparison}
 use Rattle.expr_rules.specs.Sequences.{front_folded}
 use Rattle.expr_rules.specs.Equality.{tells}
@@ -32,16 +32,18 @@ use Rattle.expr_steps.proofs.LighterMembers.{front_lighter, spread_array_lighter
 use Rattle.expr_steps.proofs.Lists.{single_exact, length_exact}
 use Rattle.expr_steps.proofs.Members.{text_at_exact, array_at_exact, value_named_exact}
 use Rattle.expr_steps.proofs.ObjectSpreads.{spread_object_exact}
-use Rattle.expr_steps.proofs.Places.{guarded_exact, type_of_constant_exact, member_exact}
+use Rattle.pass_steps.proofs.Guarded.{guarded_exact}
+use Rattle.expr_steps.proofs.Places.{type_of_constant_exact, member_exact}
 use Rattle.expr_steps.proofs.Quiet.{pure_no_effects}
 use Rattle.expr_steps.proofs.Regroup.{regroup_exact}
-use Rattle.expr_steps.proofs.Rewrites.{fold_numbers_exact, logical_exact, truth_tree_gives}
+use Rattle.expr_steps.proofs.Rewrites.{fold_numbers_exact, logical_exact}
+use Rattle.pass_steps.proofs.Truths.{truth_tree_gives}
 use Rattle.expr_steps.proofs.Self.{self_exact, type_self_exact}
 use Rattle.expr_steps.proofs.Sequences.{front_folded_exact}
 use Rattle.expr_steps.proofs.Special.{power_zero_exact, text_length_exact}
 use Rattle.expr_steps.proofs.Spreads.{spread_array_exact}
 use Rattle.expr_steps.proofs.Values.{known_binary_exact, typeof_exact, no_meaning_exact}
-use Rattle.expr_steps.proofs.Weights.{number_light, void_weighs}
+use Rattle.pass_steps.proofs.Weights.{number_light, void_weighs}
 
 -- comparisons of texts
 

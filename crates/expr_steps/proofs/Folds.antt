@@ -22,12 +22,14 @@ use Rattle.swc_utils.proofs.Pure.{pure_is_still}
 use Rattle.swc_utils.proofs.Known.{truth_holds, number_holds, text_holds, number_pure, text_pure, of_value_some}
 use Rattle.swc_utils.proofs.Typed.{KnowsType, type_holds, text_known, no_text_known, no_text_number, side_known}
 use Rattle.swc_utils.proofs.Refines.{refines_drop}
-use Rattle.expr_rules.specs.Leaves.{number_tree, text_tree, void_tree}
+use Rattle.pass_rules.specs.Leaves.{number_tree, text_tree, void_tree}
 use Rattle.expr_rules.specs.Arithmetic.{as_numeric, fold_texts, summed, is_number_type, fold_sum}
 use Rattle.expr_rules.specs.Choices.{chosen_arm}
 use Rattle.expr_steps.proofs.Constant.{Gives}
-use Rattle.expr_steps.proofs.Refines.{refines_path, refines_where, refines_end_in}
-use Rattle.expr_steps.proofs.Rewrites.{number_tree_gives, number_back, truth_keeps, if_gives, as_numeric_back}
+use Rattle.pass_steps.proofs.Values.{number_is}
+use Rattle.pass_steps.proofs.Refines.{refines_path, refines_where, refines_end_in}
+use Rattle.expr_steps.proofs.Rewrites.{number_tree_gives, number_back, if_gives, as_numeric_back}
+use Rattle.pass_steps.proofs.Truths.{truth_keeps}
 
 -- a pure expression whose value is known is that value
 pub pure_constant : (mark : ℕ) (t u : Tree) (w : Value) → pure mark t ≡ true → ((n : ℕ) (call : Caller) (c : Context) → Yields (Is w) (eval mark n call t c)) → Gives mark u w → Exact mark t u
@@ -43,15 +45,6 @@ text_gives mark rs t n call c s = refl
 pub void_gives : (mark : ℕ) (rs zs : List Span) → Gives mark (void_tree rs zs) Undefined
 unfolding eval act evals and_then unary_value
 void_gives mark rs zs n call c s = refl
-
-pub number_is : (v : Value) (k : Numeric) → to_number v ≡ Some k → value_type v ≡ NumberType → v ≡ number_value k
-number_is NaN k h i = ap number_value (same_Some _ _ h)
-number_is (Num z) k h i = ap number_value (same_Some _ _ h)
-number_is _ k h i = cc
-
-pub text_is : (v : Value) (s : List ℕ) → to_text v ≡ Some s → value_type v ≡ TextType → v ≡ Text s
-text_is (Text t) s h i = ap Text (same_Some _ _ h)
-text_is _ s h i = cc
 
 -- `+a`
 pub plus_exact : (mark : ℕ) (ss rs : List Span) (a : Tree) (k : Numeric) → number mark a ≡ Some k → Exact mark (node (Unary Plus) ss (a ⊳ ε)) (number_tree mark rs k)

@@ -1,5 +1,3 @@
-pub mod Runs
-pub mod Refines
 pub mod Rewrites
 pub mod Constant
 pub mod Quiet
@@ -20,17 +18,11 @@ pub mod Merges
 pub mod Members
 pub mod Spreads
 pub mod ObjectSpreads
-pub mod Weights
 pub mod Lighter
 pub mod LighterMembers
 pub mod ExprSteps
 pub mod Ranges
-pub mod Remains
-pub mod Leftovers
 pub mod StepsLeft
 pub mod Owes
-pub mod ExprTrees
 pub mod Roomy
 pub mod Redexes
-pub mod Defaults
-pub mod DefaultsOwe

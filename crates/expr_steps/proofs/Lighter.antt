@@ -12,9 +12,9 @@ use Rattle.swc_ast.specs.Weight.{own_weight, weight}
 use Rattle.swc_utils.specs.Pure.{pure}
 use Rattle.swc_utils.specs.Effects.{is_strict, effects, effects_all, preserve}
 use Rattle.expr_rules.specs.Equality.{is_equality}
-use Rattle.expr_rules.specs.Leaves.{text_tree, void_tree, number_tree, truth_tree}
+use Rattle.pass_rules.specs.Leaves.{text_tree, void_tree, number_tree, truth_tree}
 use Rattle.expr_rules.specs.Choices.{chosen_arm, decided, chosen_side}
-use Rattle.expr_steps.proofs.Weights.{number_light, truth_light, text_light, void_weighs, binary_preserved, unary_preserved, parts_preserved}
+use Rattle.pass_steps.proofs.Weights.{number_light, truth_light, text_light, void_weighs, binary_preserved, unary_preserved, parts_preserved}
 
 -- a literal in place of an operator, a condition or `typeof` of a name
 

@@ -11,13 +11,13 @@ use Rattle.swc_static.proofs.Drawn.{weight_joined}
 use Rattle.swc_utils.specs.Pure.{has_spread, pure, pure_all}
 use Rattle.swc_utils.specs.Literals.{is_literal}
 use Rattle.swc_utils.specs.Effects.{effects_all, preserve}
-use Rattle.expr_rules.specs.Leaves.{text_tree, key_text_of}
+use Rattle.pass_rules.specs.Leaves.{text_tree, key_text_of}
 use Rattle.expr_rules.specs.Members.{items_before, item_at, items_behind, array_at, none_named, value_named}
 use Rattle.expr_rules.specs.Sequences.{is_bound_name, array_opened, front_item, front_folded, folds, some_folds}
 use Rattle.expr_rules.specs.Spreads.{filled_kinds, filled_items, spread_kinds, spread_trees, opened_kinds, opened_items, opens, opened_property, opened_properties, is_array, spreads_array, opens_property, spreads_object}
 use Rattle.expr_steps.proofs.Members.{found_some}
 use Rattle.expr_steps.proofs.Rewrites.{if_gives}
-use Rattle.expr_steps.proofs.Weights.{all_light, preserve_light}
+use Rattle.pass_steps.proofs.Weights.{all_light, preserve_light}
 
 -- sequences
 

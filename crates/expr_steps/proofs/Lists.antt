@@ -13,7 +13,7 @@ use Rattle.swc_utils.specs.Holds.{Yields}
 use Rattle.swc_utils.proofs.Ends.{keeps_yields, yields_then, yields_gives, yields_leaves, any}
 use Rattle.swc_utils.proofs.Pure.{pure_is_still}
 use Rattle.swc_utils.proofs.Refines.{refines_same, refines_drop}
-use Rattle.expr_steps.proofs.Refines.{refines_path}
+use Rattle.pass_steps.proofs.Refines.{refines_path}
 
 -- a sequence of one
 pub single_exact : (mark : ℕ) (ss : List Span) (t : Tree) → Exact mark (node Seq ss (t ⊳ ε)) t

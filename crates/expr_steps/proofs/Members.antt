@@ -17,10 +17,10 @@ use Rattle.swc_utils.proofs.RunEffects.{all_kept}
 use Rattle.swc_utils.proofs.Ends.{keeps_then, keeps_gives, keeps_leaves, any}
 use Rattle.swc_utils.proofs.Pure.{items_still, stills, pure_is_still, calls_quiet}
 use Rattle.swc_utils.proofs.Refines.{refines_same, refines_then, refines_drop, refines_trans, refines_assoc, refines_chain, refines_leaves}
-use Rattle.expr_rules.specs.Leaves.{text_tree}
+use Rattle.pass_rules.specs.Leaves.{text_tree}
 use Rattle.expr_rules.specs.Members.{all_basic, is_surrogate, character, text_at, items_before, item_at, items_behind, array_at, none_named, value_named}
 use Rattle.expr_steps.proofs.Records.{equal_bytes, put_same, put_other}
-use Rattle.expr_steps.proofs.Refines.{refines_path, refines_end}
+use Rattle.pass_steps.proofs.Refines.{refines_path, refines_end}
 use Rattle.expr_steps.proofs.Rewrites.{if_gives}
 
 -- an index is another key than `length`

@@ -9,8 +9,8 @@ use Rattle.swc_meaning.specs.Exact.{Exact}
 use Rattle.swc_utils.proofs.RunEffects.{evals_joined}
 use Rattle.expr_rules.specs.Spreads.{opens, opened_property, opened_properties}
 use Rattle.expr_steps.proofs.Merges.{Apart, puts_apart, puts_chain}
-use Rattle.expr_steps.proofs.Refines.{refines_path}
-use Rattle.expr_steps.proofs.Runs.{bind_chain, bind_same, bind_end}
+use Rattle.pass_steps.proofs.Refines.{refines_path}
+use Rattle.pass_steps.proofs.Runs.{bind_chain, bind_same, bind_end}
 
 -- what is merged next
 next_same : {A : Type 0} (fs : Fields) (v : Value) (k h : Fields → Run A) → ((gs : Fields) → v ≡ Record gs → k (put_fields fs gs) ≡ h (put_fields fs gs)) → (merged fs v >>= k) ≡ (merged fs v >>= h)

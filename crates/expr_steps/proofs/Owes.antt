@@ -16,7 +16,7 @@ use Rattle.swc_static.specs.Step.{Step}
 use Rattle.swc_static.proofs.Expressions.{expression_step}
 use Rattle.expr_rules.specs.ExprSteps.{MemberOf, by_dot, by_key, ExprStep, not_known, plus_known, minus_known, tilde_known, void_pure, typeof_expression, typeof_constant, join_texts, add_numbers, compute_numbers, power_zero, regroup, compare_known, compare_texts, compare_name, compare_type, equality, instance, logical, choice, front, spread_array, spread_object, text_length, text_character, array_length, array_item, object_value, in_guard}
 use Rattle.expr_steps.proofs.ExprSteps.{step_lighter}
-use Rattle.expr_steps.proofs.Remains.{remains_below}
+use Rattle.pass_steps.proofs.Remains.{remains_below}
 use Rattle.expr_steps.proofs.StepsLeft.{step_left}
 
 -- the nodes that are rewritten

@@ -15,14 +15,9 @@ use Rattle.swc_utils.specs.Holds.{Is, Yields}
 use Rattle.swc_utils.proofs.Ends.{yields_then, yields_gives}
 use Rattle.swc_utils.proofs.Known.{yields0, literal_gives, constant_pure}
 use Rattle.swc_utils.proofs.Refines.{refines_same, refines_then}
-use Rattle.expr_rules.specs.Leaves.{text_tree, guarded, key_text_of}
-use Rattle.expr_steps.proofs.Refines.{refines_path}
+use Rattle.pass_rules.specs.Leaves.{text_tree, guarded, key_text_of}
+use Rattle.pass_steps.proofs.Refines.{refines_path}
 use Rattle.expr_steps.proofs.Folds.{pure_constant, text_gives}
-
--- `(0, e)` is e
-pub guarded_exact : (mark : ℕ) (rs zs : List Span) (t : Tree) → Exact mark t (guarded rs zs t)
-unfolding eval act evals in_turn and_then
-guarded_exact mark rs zs t = record { by = λ n d c. refines_same _ }
 
 -- `typeof` of a name that stands for a value
 

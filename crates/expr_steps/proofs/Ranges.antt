@@ -17,13 +17,9 @@ use Rattle.swc_utils.specs.Pure.{pure}
 use Rattle.swc_utils.specs.Types.{is_numeric_op}
 use Rattle.swc_utils.proofs.Known.{of_value_some}
 use Rattle.expr_rules.specs.Arithmetic.{as_numeric, computed, divides, is_zero, summed}
+use Rattle.pass_steps.proofs.Leftovers.{Fits}
 use Rattle.expr_steps.proofs.Regroup.{u32_below}
 use Rattle.expr_steps.proofs.Rewrites.{if_gives}
-
--- a number of the core
-abbrev pub Fits : Numeric → Type 0
-Fits NotANumber = Unit {0}
-Fits (Whole z) = in_range z ≡ true
 
 abbrev ValueFits : Value → Type 0
 ValueFits (Num z) = in_range z ≡ true

@@ -21,7 +21,7 @@ use Rattle.expr_rules.specs.Equality.{is_equality, equal_known}
 use Rattle.expr_rules.specs.ExprSteps.{not_known, void_pure, typeof_expression, join_texts, add_numbers, compute_numbers, compare_known, equality, logical, choice}
 use Rattle.expr_rules.specs.Comparisons.{compares, is_comparison}
 use Rattle.expr_rules.specs.Arithmetic.{admits, as_numeric, divides, fold_numbers, fold_sum, fold_texts, is_zero as is_zero_number}
-use Rattle.expr_rules.specs.Values.{typeof_known}
+use Rattle.expr_rules.specs.TypeNames.{typeof_known}
 use Rattle.expr_rules.specs.Choices.{is_logical}
 use Rattle.expr_steps.specs.Laws.{HasStep, RedexesStep}
 

@@ -20,10 +20,10 @@ use Rattle.swc_utils.specs.Types.{is_numeric_op}
 use Rattle.swc_utils.proofs.Known.{of_value_some}
 use Rattle.swc_utils.proofs.Refines.{refines_same, refines_then, refines_drop, refines_trans, refines_assoc, refines_leaves}
 use Rattle.expr_rules.specs.Arithmetic.{regroups, as_numeric, divides, is_zero, computed, fold_numbers}
-use Rattle.expr_rules.specs.Leaves.{number_tree}
-use Rattle.expr_steps.proofs.Refines.{refines_path}
+use Rattle.pass_rules.specs.Leaves.{number_tree}
+use Rattle.pass_steps.proofs.Refines.{refines_path}
 use Rattle.expr_steps.proofs.Rewrites.{number_keeps, operate_numeric, numeric_by_number, number_back, as_numeric_back, number_tree_gives, if_gives}
-use Rattle.expr_steps.proofs.Runs.{done_first}
+use Rattle.pass_steps.proofs.Runs.{done_first}
 
 -- a free grouping of f, where it stays in the core
 

@@ -20,18 +20,16 @@ use Rattle.swc_utils.proofs.Ends.{keeps_yields}
 use Rattle.swc_utils.proofs.Pure.{pure_is_still}
 use Rattle.swc_utils.proofs.Known.{truth_holds, number_holds, number_pure, of_value_some}
 use Rattle.swc_utils.proofs.Refines.{refines_drop}
-use Rattle.expr_rules.specs.Leaves.{number_tree, truth_tree}
+use Rattle.pass_rules.specs.Leaves.{number_tree, truth_tree}
 use Rattle.expr_rules.specs.Arithmetic.{as_numeric, divides, is_zero, computed, fold_numbers}
 use Rattle.expr_rules.specs.Choices.{chosen_side, decided, is_logical}
-use Rattle.expr_steps.proofs.Refines.{refines_path, refines_where, refines_end}
+use Rattle.pass_steps.proofs.Truths.{truth_keeps}
+use Rattle.pass_steps.proofs.Refines.{refines_path, refines_where, refines_end}
 
 -- what is known of a pure part
 
 pub number_keeps : (mark n d : ℕ) (t : Tree) (k : Numeric) → number mark t ≡ Some k → (c : Context) → Keeps (HasNumber k) (eval mark n (call_at (eval mark n) d) t c)
 number_keeps mark n d t k h c = keeps_yields (pure_is_still mark n d t (number_pure mark t k h) c) (number_holds mark n (call_at (eval mark n) d) t k h c)
-
-pub truth_keeps : (mark n d : ℕ) (t : Tree) (b : Bool) → pure mark t ≡ true → truth mark t ≡ Some b → (c : Context) → Keeps (HasTruth b) (eval mark n (call_at (eval mark n) d) t c)
-truth_keeps mark n d t b p h c = keeps_yields (pure_is_still mark n d t p c) (truth_holds mark n (call_at (eval mark n) d) t b h c)
 
 -- the outcome is known
 pub refines_known : {m k : Run Value} (v : Value) → m ≡ gives v → ((s : State) → k s ≡ Done v s) → Refines m k
@@ -154,7 +152,3 @@ strict_differ p q h = by_objects (is_object p) (is_object q) refl refl
     by_objects true true e g = absurd (false≢true (sym h ∙ ap₂ same_type (object_type p e) (object_type q g)))
     by_objects true false e g = ap Some (primitive_differ p q h)
     by_objects false j e g = ap Some (primitive_differ p q h)
-
-pub truth_tree_gives : (mark n : ℕ) (call : Caller) (rs : List Span) (b : Bool) (c : Context) (s : State) → eval mark n call (truth_tree rs b) c s ≡ Done (Truth b) s
-unfolding eval act evals
-truth_tree_gives mark n call rs b c s = refl

@@ -21,14 +21,14 @@ use Rattle.expr_rules.specs.Arithmetic.{computed, summed}
 use Rattle.expr_rules.specs.Choices.{chosen_arm, chosen_side, decided}
 use Rattle.expr_rules.specs.Equality.{tells}
 use Rattle.expr_rules.specs.ExprSteps.{MemberOf, by_dot, by_key, ExprStep, not_known, plus_known, minus_known, tilde_known, void_pure, typeof_expression, typeof_constant, join_texts, add_numbers, compute_numbers, power_zero, regroup, compare_known, compare_texts, compare_name, compare_type, equality, instance, logical, choice, front, spread_array, spread_object, text_length, text_character, array_length, array_item, object_value, in_guard}
-use Rattle.expr_rules.specs.Leaves.{as_sequence, guarded, number_tree, text_tree, truth_tree, void_tree}
+use Rattle.pass_rules.specs.Leaves.{as_sequence, guarded, number_tree, text_tree, truth_tree, void_tree}
 use Rattle.expr_rules.specs.Sequences.{array_opened, front_folded, front_item, is_bound_name, some_folds}
 use Rattle.expr_steps.specs.Laws.{is_guarded, is_member_or_name}
 use Rattle.expr_steps.proofs.ExprSteps.{void_light}
 use Rattle.expr_steps.proofs.LighterMembers.{front_light, member_lighter, array_at_roomy, value_named_roomy}
 use Rattle.expr_steps.proofs.Rewrites.{if_gives}
 use Rattle.expr_steps.proofs.Sequences.{is_some, folded_some}
-use Rattle.expr_steps.proofs.Weights.{number_light}
+use Rattle.pass_steps.proofs.Weights.{number_light}
 
 abbrev is_named : Tree → Bool
 is_named u = is_member_or_name (label u)

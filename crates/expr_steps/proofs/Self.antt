@@ -17,10 +17,10 @@ use Rattle.swc_utils.specs.Pure.{pure}
 use Rattle.swc_utils.specs.Holds.{Is, Any, Yields}
 use Rattle.swc_utils.proofs.Ends.{keeps_yields, yields_then, yields_gives, yields_in_core, any}
 use Rattle.swc_utils.proofs.Pure.{read_still, type_still}
-use Rattle.expr_rules.specs.Leaves.{truth_tree}
+use Rattle.pass_rules.specs.Leaves.{truth_tree}
 use Rattle.expr_rules.specs.Comparisons.{beside_itself, text_beside_itself}
-use Rattle.expr_steps.proofs.Rewrites.{truth_tree_gives}
-use Rattle.expr_steps.proofs.Runs.{bind_same, yields_twice}
+use Rattle.pass_steps.proofs.Truths.{truth_tree_gives}
+use Rattle.pass_steps.proofs.Runs.{bind_same, yields_twice}
 use Rattle.expr_steps.proofs.Folds.{pure_constant}
 
 not_before_itself : (c : ℕ) → nat_lt c c ≡ false

@@ -15,8 +15,8 @@ use Rattle.swc_utils.proofs.RunEffects.{drop, evals_joined, pure_dropped, run_on
 use Rattle.swc_utils.proofs.Refines.{refines_same, refines_then, refines_trans}
 use Rattle.expr_rules.specs.Sequences.{is_bound_name, array_opened, front_item, front_folded}
 use Rattle.expr_steps.proofs.Literal.{literal_is_pure}
-use Rattle.expr_steps.proofs.Refines.{refines_path}
-use Rattle.expr_steps.proofs.Runs.{bind_chain, bind_same}
+use Rattle.pass_steps.proofs.Refines.{refines_path}
+use Rattle.pass_steps.proofs.Runs.{bind_chain, bind_same}
 
 turn_cons : (m k : Meaning) (ms ks : List Meaning) (c : Context) → in_turn (m ∷ (ms ++ k ∷ ks)) c ≡ (m c >>= λ v. in_turn (ms ++ k ∷ ks) c)
 unfolding in_turn

@@ -13,7 +13,7 @@ use Rattle.swc_utils.specs.Holds.{Is}
 use Rattle.swc_utils.proofs.Ends.{yields_then, yields_in_core, any}
 use Rattle.swc_utils.proofs.Known.{number_holds}
 use Rattle.swc_utils.proofs.Refines.{refines_same}
-use Rattle.expr_rules.specs.Leaves.{number_tree}
+use Rattle.pass_rules.specs.Leaves.{number_tree}
 use Rattle.expr_steps.proofs.Constant.{constant_exact}
 use Rattle.expr_steps.proofs.Folds.{number_gives}
 

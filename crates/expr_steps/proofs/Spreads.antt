@@ -9,8 +9,8 @@ use Rattle.swc_ast.specs.Operators.{values_append}
 use Rattle.swc_meaning.specs.Exact.{Refines, Exact}
 use Rattle.swc_utils.proofs.Refines.{refines_same, refines_then, refines_trans, refines_assoc, refines_chain, refines_leaves}
 use Rattle.expr_rules.specs.Spreads.{filled_kinds, filled_items, spread_kinds, spread_trees, opened_kinds, opened_items}
-use Rattle.expr_steps.proofs.Refines.{refines_path}
-use Rattle.expr_steps.proofs.Runs.{bind_chain, bind_same, bind_end}
+use Rattle.pass_steps.proofs.Refines.{refines_path}
+use Rattle.pass_steps.proofs.Runs.{bind_chain, bind_same, bind_end}
 
 append_chain : (us vs ws : Values) → values_append (values_append us vs) ws ≡ values_append us (values_append vs ws)
 append_chain ∅ vs ws = refl

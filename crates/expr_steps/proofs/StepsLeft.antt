@@ -20,14 +20,14 @@ use Rattle.swc_utils.specs.Effects.{effects, effects_all, preserve}
 use Rattle.swc_utils.proofs.Chains.{joined_assoc}
 use Rattle.expr_rules.specs.Equality.{tells}
 use Rattle.expr_rules.specs.ExprSteps.{MemberOf, by_dot, by_key, ExprStep, not_known, plus_known, minus_known, tilde_known, void_pure, typeof_expression, typeof_constant, join_texts, add_numbers, compute_numbers, power_zero, regroup, compare_known, compare_texts, compare_name, compare_type, equality, instance, logical, choice, front, spread_array, spread_object, text_length, text_character, array_length, array_item, object_value, in_guard}
-use Rattle.expr_rules.specs.Leaves.{void_tree, number_tree, truth_tree, as_sequence}
+use Rattle.pass_rules.specs.Leaves.{void_tree, number_tree, truth_tree, as_sequence}
 use Rattle.expr_rules.specs.Choices.{chosen_arm, decided, chosen_side}
 use Rattle.expr_rules.specs.Arithmetic.{summed}
 use Rattle.expr_rules.specs.Members.{items_before, item_at, items_behind, array_at, none_named, value_named}
 use Rattle.expr_rules.specs.Sequences.{is_bound_name, array_opened, front_item, front_folded, some_folds}
 use Rattle.expr_rules.specs.Spreads.{filled_items, spread_trees, opened_kinds, opened_items, opens, opened_property, opened_properties}
-use Rattle.expr_steps.proofs.Remains.{Remains, nothing, goes, stays, opened, made, all_go, all_stay}
-use Rattle.expr_steps.proofs.Leftovers.{operator_stands, array_stands, object_stands, text_made, truth_made, whole_made, number_made, zero_made, void_made, two_made, sequence_made, preserve_made, effects_left, effects_all_left}
+use Rattle.pass_steps.proofs.Remains.{Remains, nothing, goes, stays, opened, made, all_go, all_stay}
+use Rattle.pass_steps.proofs.Leftovers.{operator_stands, array_stands, object_stands, text_made, truth_made, whole_made, number_made, zero_made, void_made, two_made, sequence_made, preserve_made, effects_left, effects_all_left}
 use Rattle.expr_steps.proofs.Members.{found_some}
 use Rattle.expr_steps.proofs.Ranges.{number_fits, computed_fits, summed_fits, i32_in_range}
 use Rattle.expr_steps.proofs.Rewrites.{if_gives}

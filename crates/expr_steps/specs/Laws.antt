@@ -1,29 +1,22 @@
 -- What is proved of each rewrite of a node of an expression.
 use Rattle.std.specs.Prelude.{ℕ, Bool, true, false, ◌<◌, ◌≡◌, List}
 use Rattle.swc_ast.specs.declared.Span.{Span}
-use Rattle.swc_ast.specs.declared.expressions.Expr.{Expr}
 use Rattle.swc_ast.specs.declared.UnaryOp.{UnaryOp}
 use Rattle.swc_ast.specs.declared.BinaryOp.{BinaryOp}
-use Rattle.swc_ast.specs.Tree.{Name, Label, Param, Read, Unary, Binary, Cond, Seq, Dot, Index, Tree, node, Forest, ε, ◌⊳◌}
+use Rattle.swc_ast.specs.Tree.{Name, Label, Read, Unary, Binary, Cond, Seq, Dot, Index, Tree, node, Forest, ε, ◌⊳◌}
 use Rattle.swc_ast.specs.Redex.{is_zero, is_simple_literal, binary_redex, unary_redex}
-use Rattle.swc_ast.specs.Views.{expr_tree}
 use Rattle.swc_ast.specs.Weight.{weight}
-use Rattle.swc_meaning.specs.Exact.{Exact, GivesUndefined}
+use Rattle.swc_meaning.specs.Exact.{Exact}
 use Rattle.swc_meaning.specs.Roles.{Fits, label, is_item}
 use Rattle.swc_meaning.specs.Walks.{no_names}
 use Rattle.swc_static.specs.Drawn.{is_expression}
 use Rattle.swc_static.specs.Step.{Step}
-use Rattle.expr_rules.specs.Defaults.{is_void}
 use Rattle.expr_rules.specs.ExprSteps.{ExprStep}
-use Rattle.expr_rules.specs.Leaves.{guarded}
+use Rattle.pass_rules.specs.Leaves.{guarded}
 
 -- what takes a node's place means exactly what the node means
 abbrev pub StepsAreExact : Type 0
 StepsAreExact = (mark : ℕ) (t u : Tree) → ExprStep mark t u → Exact mark t u
-
--- the tree of an expression has an expression's label
-abbrev pub TreesAreExpressions : Type 0
-TreesAreExpressions = (e : Expr) → is_expression (label (expr_tree e)) ≡ true
 
 -- An expression that takes a node's place keeps and spares what a pass may not touch, and is lighter: whether statements may
 -- stop in the pass or not, and whatever names it may not drop.
@@ -66,11 +59,3 @@ pub record RedexesStep (mark : ℕ) (ss : List Span) : Type 0 where
 
 abbrev pub RedexesHaveSteps : Type 0
 RedexesHaveSteps = (mark : ℕ) (ss : List Span) → RedexesStep mark ss
-
--- a default that is `undefined`, or `void` of what is pure, gives undefined and does nothing else
-abbrev pub VoidsAreUndefined : Type 0
-VoidsAreUndefined = (mark : ℕ) (t : Tree) → is_void mark t ≡ true → GivesUndefined mark t
-
--- a parameter without its default keeps and spares what a pass may not touch, and is lighter
-abbrev pub DefaultsOwe : Type 0
-DefaultsOwe = (n : Bool) (p : Name → Bool) (x : Name) (ss rs : List Span) (t : Tree) → Step (n ≡ true) (λ y. p y ≡ true) (node (Param x) ss (t ⊳ ε)) (node (Param x) rs ε)

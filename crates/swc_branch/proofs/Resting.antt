@@ -30,7 +30,7 @@ use Rattle.swc_ast.proofs.Equations.{decl_tree-Fn, decl_tree-Var}
 use Rattle.swc_static.specs.Drawn.{is_expression}
 use Rattle.swc_static.specs.Free.{is_folded}
 use Rattle.swc_static.specs.Names.{label_of}
-use Rattle.expr_steps.proofs.ExprTrees.{is_an_expression}
+use Rattle.pass_steps.proofs.ExprTrees.{is_an_expression}
 use Rattle.branch_rules.specs.Removes.{Rests}
 
 -- labels that a rule of statements is about

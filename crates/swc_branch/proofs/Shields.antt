@@ -17,10 +17,10 @@ use Rattle.swc_walk.specs.Walks.{Fits, Stepped}
 use Rattle.swc_walk.specs.declared.rules.Place.{Place}
 use Rattle.swc_walk.specs.declared.rules.Place.TheVariants as place
 use Rattle.swc_walk.proofs.NodeKinds.{alone_fits}
-use Rattle.expr_rules.specs.Leaves.{guarded}
-use Rattle.expr_steps.proofs.ExprTrees.{is_an_expression}
-use Rattle.expr_places.specs.Dropped.{MayDrop, dropped}
-use Rattle.expr_places.specs.Places.{nowhere, shielded}
+use Rattle.pass_rules.specs.Leaves.{guarded}
+use Rattle.pass_steps.proofs.ExprTrees.{is_an_expression}
+use Rattle.pass_places.specs.Dropped.{MayDrop, dropped}
+use Rattle.pass_places.specs.Places.{nowhere, shielded}
 use Rattle.branch_rules.specs.Expressions.{ExpressionStep, front, itself, same_arms, in_guard, Becomes}
 use Rattle.branch_rules.specs.Ignored.{Opens, operand, sides, items, properties, texts, arguments, new_arguments, Ignores, stays, goes, itself as itself_goes, opened, sequence, right_goes, right_left, right_runs, right_skipped, never_nullish, always_nullish, items_left, properties_left, arm_runs, arms_go, second_goes, first_goes, arms_left, IgnoresAll, one_goes, one_left, one_opens}
 use Rattle.branch_rules.specs.Removes.{Removes, of_expression, of_default, remove_pass}

@@ -8,14 +8,14 @@ ghost use Rattle.swc_static.specs.Names.{label_of};
 ghost use Rattle.swc_utils.specs.Globals.{unresolved};
 ghost use Rattle.swc_ast.specs.declared.statements.Stmt.{size-Stmt};
 ghost use Rattle.swc_walk.specs.Walks.{Became, Opened, Stepped};
-ghost use Rattle.expr_places.specs.Dropped.{has_void_default};
+ghost use Rattle.pass_places.specs.Dropped.{has_void_default};
 ghost use Rattle.branch_rules.specs.Removes.{remove_pass};
 
 use crate::expressions::fold_expr;
 use crate::places::is_cramped;
 use crate::statements::{finish_for, fold_stmt, is_for, open_stmt};
 use branch_lists::{tidy_items, tidy_statements};
-use expr_places::{drop_default, is_delete, shielded};
+use pass_places::{drop_default, is_delete, shielded};
 use std::alloc::{AllocError, Global};
 use swc_ast::{Expr, ModuleItem, Pat, Stmt};
 use swc_utils::ExprCtx;

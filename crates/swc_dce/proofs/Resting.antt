@@ -6,7 +6,7 @@ use Rattle.swc_ast.specs.Views.{expr_tree}
 use Rattle.swc_ast.specs.declared.expressions.Expr.{Expr}
 use Rattle.swc_static.specs.Drawn.{is_expression}
 use Rattle.swc_static.specs.Names.{label_of}
-use Rattle.expr_steps.proofs.ExprTrees.{is_an_expression}
+use Rattle.pass_steps.proofs.ExprTrees.{is_an_expression}
 use Rattle.dce_rules.specs.Shakes.{Shaker, Rests}
 
 rests_by : (S : Shaker) (t : Tree) → is_expression (label_of t) ≡ true → Rests S t

@@ -9,7 +9,7 @@ ghost use Rattle.dce_rules.specs.Shakes.{shake_pass};
 ghost use Rattle.dce_code.specs.Knowledge.{shaker};
 
 use dce_code::{Known, begins_with_asm};
-use expr_places::is_delete;
+use pass_places::is_delete;
 use std::alloc::{AllocError, Global};
 use swc_ast::{Expr, ModuleDecl, ModuleItem, Stmt, VarDecl};
 use swc_walk::{ListPlace, Place, Rules};

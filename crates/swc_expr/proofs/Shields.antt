@@ -17,13 +17,13 @@ use Rattle.swc_walk.specs.Parts.{is_bare}
 use Rattle.swc_walk.proofs.NodeKinds.{alone_fits, other_bare}
 use Rattle.swc_meaning.specs.Roles.{label}
 use Rattle.expr_rules.specs.ExprSteps.{ExprStep, front, text_length, text_character, array_length, array_item, object_value, in_guard}
-use Rattle.expr_rules.specs.Leaves.{guarded}
+use Rattle.pass_rules.specs.Leaves.{guarded}
 use Rattle.expr_steps.specs.Laws.{is_guarded, is_member_or_name}
 use Rattle.expr_steps.proofs.Roomy.{guarded_lighter}
-use Rattle.expr_places.specs.Places.{is_shielding, is_shield, nowhere, shielded}
+use Rattle.pass_places.specs.Places.{is_shielding, is_shield, nowhere, shielded}
 use Rattle.expr_rules.specs.Replaced.{Replaced}
-use Rattle.expr_steps.proofs.ExprTrees.{is_an_expression}
-use Rattle.expr_places.specs.Dropped.{MayDrop}
+use Rattle.pass_steps.proofs.ExprTrees.{is_an_expression}
+use Rattle.pass_places.specs.Dropped.{MayDrop}
 use Rattle.swc_expr.specs.Simplifies.{Rests, Simplifies, folds, default_goes, simplify_pass}
 
 -- a sequence rests

@@ -25,9 +25,9 @@ use Rattle.swc_kept.proofs.Plain.{right_same}
 use Rattle.swc_kept.proofs.Static.{whole_resolved, whole_core, whole_falls, whole_free}
 use Rattle.swc_pass.specs.Pass.{SameBare, TellsChange}
 use Rattle.expr_rules.specs.Replaced.{expr_redex}
-use Rattle.expr_places.specs.Dropped.{dropped}
-use Rattle.expr_steps.proofs.Defaults.{void_is_undefined}
-use Rattle.expr_steps.proofs.DefaultsOwe.{default_owes}
+use Rattle.pass_places.specs.Dropped.{dropped}
+use Rattle.pass_steps.proofs.Defaults.{void_is_undefined}
+use Rattle.pass_steps.proofs.DefaultsOwe.{default_owes}
 use Rattle.expr_steps.proofs.ExprSteps.{step_exact}
 use Rattle.expr_steps.proofs.Owes.{step_owes, step_fits, step_no_item, step_below}
 use Rattle.swc_expr.specs.Simplifies.{Simplifies, folds, default_goes, simplify_pass}

@@ -6,7 +6,7 @@ use Rattle.swc_static.specs.Drawn.{is_expression}
 use Rattle.swc_static.specs.Free.{kind_at}
 use Rattle.swc_static.specs.Names.{label_of}
 use Rattle.swc_walk.specs.Pass.{Pass}
-use Rattle.expr_places.specs.Dropped.{Dropped}
+use Rattle.pass_places.specs.Dropped.{Dropped}
 use Rattle.expr_rules.specs.ExprSteps.{ExprStep}
 use Rattle.expr_rules.specs.Replaced.{expr_redex}
 

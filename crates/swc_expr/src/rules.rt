@@ -6,13 +6,13 @@ ghost use Rattle.swc_ast.specs.Views.{expr_tree};
 ghost use Rattle.swc_static.specs.Names.{label_of};
 ghost use Rattle.swc_utils.specs.Globals.{unresolved};
 ghost use Rattle.swc_walk.specs.Walks.{Stepped};
-ghost use Rattle.expr_places.specs.Dropped.{has_void_default};
+ghost use Rattle.pass_places.specs.Dropped.{has_void_default};
 ghost use Rattle.expr_rules.specs.Replaced.{Replaced};
 ghost use Rattle.swc_expr.specs.Simplifies.{Rests, simplify_pass};
 
 use expr_members::{fold_member, fold_sequence, spread_items, spread_properties};
 use expr_operators::{fold_binary, fold_condition, fold_unary};
-use expr_places::{drop_default, is_delete, is_shield, shielded};
+use pass_places::{drop_default, is_delete, is_shield, shielded};
 use std::alloc::{AllocError, Global};
 use swc_ast::{Expr, ModuleItem, PassError, Pat, Stmt};
 use swc_utils::ExprCtx;

@@ -1,7 +1,4 @@
-use Rattle.expr_steps.proofs.Defaults.{void_is_undefined}
-use Rattle.expr_steps.proofs.DefaultsOwe.{default_owes}
 use Rattle.expr_steps.proofs.ExprSteps.{step_exact}
-use Rattle.expr_steps.proofs.ExprTrees.{is_an_expression}
 use Rattle.expr_steps.proofs.Owes.{step_owes, step_fits, step_no_item}
 use Rattle.expr_steps.proofs.Roomy.{guarded_lighter}
 use Rattle.expr_steps.proofs.Redexes.{redexes_step}
@@ -11,11 +8,8 @@ pub returns : goal.returns
 returns c = record {
   exact = λ mark t u s. step_exact s;
   owes = λ mark n p t u e s. step_owes e s;
-  trees = is_an_expression;
   fits = λ mark t u e s. step_fits e s;
   no_item = λ mark t u s. step_no_item s;
   roomy = λ mark t u s. guarded_lighter s;
   redexes = λ mark ss. redexes_step mark ss;
-  defaults = void_is_undefined;
-  defaults_owe = λ n p x ss rs t. default_owes x ss rs t;
 }

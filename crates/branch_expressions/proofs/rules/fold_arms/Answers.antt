@@ -2,7 +2,7 @@ use Rattle.std.proofs.Common.{[], ◌∷◌, sym, ap, ◌∙◌}
 use Rattle.swc_ast.specs.Views.{expr_tree}
 use Rattle.swc_utils.specs.Globals.{unresolved}
 use Rattle.swc_utils.specs.Pure.{pure}
-use Rattle.expr_rules.specs.Defaults.{is_void}
+use Rattle.pass_rules.specs.Defaults.{is_void}
 use Rattle.branch_rules.specs.Expressions.{always_void}
 use Rattle.branch_expressions.proofs.Fronts.{arms_step, pure_of}
 use Rattle.branch_expressions.proofs.rules.fold_arms.Goals as goal

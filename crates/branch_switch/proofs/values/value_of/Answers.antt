@@ -1,7 +1,7 @@
 use Rattle.std.proofs.Common.{◌≡◌, Some, IfSome, subst}
 use Rattle.swc_ast.specs.Views.{expr_tree}
 use Rattle.swc_utils.specs.Globals.{unresolved}
-use Rattle.expr_rules.specs.Values as rules
+use Rattle.pass_rules.specs.Values as rules
 use Rattle.branch_switch.specs.Values.{value_in}
 use Rattle.branch_switch.proofs.values.value_of.Goals as goal
 

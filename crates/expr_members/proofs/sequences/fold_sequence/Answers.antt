@@ -2,7 +2,7 @@ use Rattle.std.proofs.Common.{[], ◌∷◌, sym, ap, ◌∙◌}
 use Rattle.swc_ast.specs.Parts.{list_trees}
 use Rattle.swc_ast.specs.Views.{expr_tree}
 use Rattle.swc_utils.specs.Globals.{unresolved}
-use Rattle.expr_rules.specs.Leaves.{as_sequence}
+use Rattle.pass_rules.specs.Leaves.{as_sequence}
 use Rattle.expr_rules.specs.Sequences.{some_folds, front_folded}
 use Rattle.expr_members.proofs.Fronts.{front_step}
 use Rattle.expr_members.proofs.sequences.fold_sequence.Goals as goal

@@ -1,5 +1,5 @@
 use Rattle.std.proofs.Common.{[], ◌∷◌, refl}
-use Rattle.expr_rules.specs.Leaves.{void_tree}
+use Rattle.pass_rules.specs.Leaves.{void_tree}
 use Rattle.expr_rules.specs.Spreads.{opened_kinds, opened_items}
 use Rattle.expr_members.proofs.Opened.{kinds_of, trees_of, opened_kinds_cons, opened_trees_cons}
 use Rattle.expr_members.proofs.Turns.{trees_on, parts_on, trees_end}

@@ -1,6 +1,6 @@
 use Rattle.std.proofs.Common.{[], ◌∷◌, ◌++◌, refl, ap, ◌∙◌}
 use Rattle.swc_ast.specs.Scope.{joined}
-use Rattle.expr_rules.specs.Leaves.{void_tree}
+use Rattle.pass_rules.specs.Leaves.{void_tree}
 use Rattle.expr_rules.specs.Spreads.{filled_kinds, filled_items}
 use Rattle.expr_members.proofs.Opened.{kinds_of, trees_of, one_kind, one_tree, filled_kinds_cons, filled_trees_cons}
 use Rattle.expr_members.proofs.Turns.{trees_on, parts_on, trees_end}

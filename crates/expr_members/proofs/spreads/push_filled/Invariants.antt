@@ -3,7 +3,7 @@ use Rattle.std.specs.Vec.Iter.{into_iter_items}
 use Rattle.swc_ast.specs.Expressions.{item_kind, item_trees}
 use Rattle.swc_ast.specs.Scope.{joined}
 use Rattle.swc_ast.specs.Views.{expr_tree}
-use Rattle.expr_rules.specs.Leaves.{void_tree}
+use Rattle.pass_rules.specs.Leaves.{void_tree}
 use Rattle.expr_rules.specs.Spreads.{filled_kinds, filled_items}
 use Rattle.expr_members.proofs.spreads.push_filled.Given as goal
 

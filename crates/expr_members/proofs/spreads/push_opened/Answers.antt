@@ -1,7 +1,7 @@
 use Rattle.std.proofs.Common.{◌≡◌, [], ◌∷◌, sym, ap, subst, ◌∙◌}
 use Rattle.std.specs.Prelude.{OnOk}
 use Rattle.swc_ast.specs.Scope.{joined}
-use Rattle.expr_rules.specs.Leaves.{void_tree}
+use Rattle.pass_rules.specs.Leaves.{void_tree}
 use Rattle.expr_members.proofs.Opened.{trees_of, one_tree, closed_tree, spread_at}
 use Rattle.expr_members.proofs.spreads.push_opened.Goals as goal
 

@@ -2,7 +2,7 @@ use Rattle.std.proofs.Common.{[], ◌∷◌, ap, ◌∙◌}
 use Rattle.swc_ast.specs.Views.{expr_tree}
 use Rattle.swc_utils.specs.Globals.{unresolved}
 use Rattle.swc_utils.specs.Sound.{known}
-use Rattle.expr_rules.specs.Leaves.{truth_tree}
+use Rattle.pass_rules.specs.Leaves.{truth_tree}
 use Rattle.expr_operators.proofs.BinarySteps.{equality_step}
 use Rattle.expr_operators.proofs.equality.fold_equality.Goals as goal
 

@@ -2,8 +2,8 @@ use Rattle.std.proofs.Common.{[], ◌∷◌, sym, ap, ◌∙◌}
 use Rattle.swc_ast.specs.Views.{expr_tree}
 use Rattle.swc_utils.specs.Effects.{is_read}
 use Rattle.swc_utils.specs.Globals.{unresolved}
-use Rattle.expr_rules.specs.Leaves.{text_tree}
-use Rattle.expr_rules.specs.Values.{typeof_known}
+use Rattle.pass_rules.specs.Leaves.{text_tree}
+use Rattle.expr_rules.specs.TypeNames.{typeof_known}
 use Rattle.expr_operators.proofs.UnarySteps.{typeof_step}
 use Rattle.expr_operators.proofs.unary.fold_typeof.Goals as goal
 

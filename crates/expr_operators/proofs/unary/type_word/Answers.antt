@@ -4,7 +4,7 @@ use Rattle.swc_ast.proofs.Places.{at_expr-Array, at_expr-Object, at_expr-Fn, at_
 use Rattle.swc_utils.specs.Effects.{is_read}
 use Rattle.swc_utils.proofs.EffectNodes.{read-lit, read-unary}
 use Rattle.swc_utils.proofs.LiteralNodes.{literal-unary, literal-call, literal-update, literal-assign, literal-member}
-use Rattle.expr_rules.specs.Values.{typeof_known}
+use Rattle.expr_rules.specs.TypeNames.{typeof_known}
 use Rattle.expr_operators.proofs.Words.{literal_word, void_word, no_simple}
 use Rattle.expr_operators.proofs.unary.type_word.Goals as goal
 

@@ -1,5 +1,0 @@
-use Rattle.expr_places.proofs.Views.{other_shield}
-use Rattle.expr_places.proofs.places.is_shield.Goals as goal
-
-pub returns-in_default : goal.returns-in_default
-returns-in_default c = other_shield _ _ c.in_default.not-Seq

@@ -1,0 +1,11 @@
+pub mod Runs
+pub mod Refines
+pub mod Truths
+pub mod Values
+pub mod Guarded
+pub mod Weights
+pub mod Remains
+pub mod Leftovers
+pub mod ExprTrees
+pub mod Defaults
+pub mod DefaultsOwe
