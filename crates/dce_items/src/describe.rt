@@ -5,7 +5,7 @@ ghost use Rattle.swc_utils.specs.Globals.{unresolved};
 ghost use Rattle.swc_visit.specs.Nodes.{node_tree, children_forest};
 ghost use Rattle.dce_items.specs.Described.{AllDescribed, Describes};
 
-use crate::kinds::is_void;
+use crate::kinds::{is_asm, is_void};
 use crate::known::Known;
 use crate::parts::parts_of;
 use dce_peel::Item;
@@ -16,7 +16,7 @@ use swc_names::Names;
 use swc_utils::ExprCtx;
 use swc_visit::{Children, Node};
 
-/// An item by numbers of names. Nothing where something else than a name goes in it in any case.
+/// An item by numbers of names. Nothing where something else than a name goes in it in any case, and where it is `'use asm'`.
 fn describe(
     alloc: Global,
     names: &Names,
@@ -34,6 +34,9 @@ fn describe(
         uses: &uses,
     };
     let opened = item.open();
+    if is_asm(opened) {
+        return Ok(None);
+    }
     if is_void(opened) {
         return Ok(None);
     }

@@ -162,3 +162,17 @@ pub(crate) fn is_sound(opened: Opened<'_>) -> bool
         _ => true,
     }
 }
+
+/// Whether a node is the text `'use asm'` as a statement: once it is the first of its list, nothing goes from that any more.
+pub(crate) fn is_asm(opened: Opened<'_>) -> bool {
+    match opened.kind {
+        Kind::ExprStmt => match opened.children.next() {
+            Some((child, _)) => match child.open().kind {
+                Kind::StrLit(text) => text.value.as_str() == "use asm",
+                _ => false,
+            },
+            None => false,
+        },
+        _ => false,
+    }
+}

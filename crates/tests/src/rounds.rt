@@ -11,7 +11,7 @@ use swc_pass::{Chain, Pass, Repeat, Repeated};
 use swc_text::{print, read_module};
 
 /// Modules in whose rounds functions and variables go, one behind the other.
-const MODULES: [&str; 22] = [
+const MODULES: [&str; 24] = [
     "function a() { b(); } function b() { c(); } function c() { d(); } function d() {} f();",
     "function d() {} function c() { d(); } function b() { c(); } function a() { b(); } f();",
     "export function e() { b(); } function a() { b(); d(); } function b() { c(); } function c() {} function d() {}",
@@ -34,6 +34,8 @@ const MODULES: [&str; 22] = [
     "let a = b; let b = c; c = 1; let c = d; var d; var d = 2;",
     "let a = b; let b = c; let c = d(); let d = g;",
     "let a = b; export let b = c; let c = 1; { var d = c; } let e = d;",
+    "function a() { b(); } function b() {} 'use asm'; function c() { d(); } function d() { e(); } function e() { g(); } function g() {} f();",
+    "let a = b; let b = 1; 'use asm'; let e = 1; let d = e; let c = d; let g = c; f();",
 ];
 
 /// Runs both over a text, with a name that stays and so many rounds at most.
