@@ -86,3 +86,14 @@ test('no pass uses a crate of another pass', () => {
         assert.deepEqual(others, [], crate);
     }
 });
+
+test('the name of a crate tells whether it is public, and whether it has code', () => {
+    const table = read('README.md').split('## The public crates')[1].split('\n## ')[0];
+    for (const [, crate] of read('crates.txt').matchAll(/^(\w+):/gm)) {
+        if (crate.startsWith('swc_')) assert.ok(table.includes(`\`${crate}\``), `${crate} is not in the table of public crates`);
+        if (!/_(rules|proofs)$/.test(crate)) continue;
+        const sources = fs.readdirSync(path.join(TOP, 'crates', crate, 'src'));
+        const bodies = sources.flatMap((file) => read('crates', crate, 'src', file).match(/^\{[^}]*\S[^}]*\}/gm) ?? []);
+        assert.deepEqual(bodies, [], `${crate} has code`);
+    }
+});

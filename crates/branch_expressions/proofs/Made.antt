@@ -19,7 +19,7 @@ use Rattle.swc_utils.specs.Known.{truth, pure_truth}
 use Rattle.swc_utils.specs.Pure.{pure}
 use Rattle.swc_utils.specs.Types.{type_of}
 use Rattle.pass_rules.specs.Values.{is_nullish_type}
-use Rattle.pass_steps.proofs.ExprTrees.{is_an_expression}
+use Rattle.pass_proofs.proofs.ExprTrees.{is_an_expression}
 use Rattle.branch_rules.specs.Ignored.{Ignores, IgnoresAll, stays, goes, itself, opened, operand, sides, none_left, one_goes, one_left, as_one, skips, may_skip, right_goes, right_left, right_runs, right_skipped, never_nullish, always_nullish}
 use Rattle.branch_rules.specs.Expressions as rules
 use Rattle.branch_expressions.specs.Left.{Leaves, Rested, is_change, other, tree_of}

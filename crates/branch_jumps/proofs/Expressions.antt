@@ -34,7 +34,7 @@ use Rattle.swc_ast.specs.declared.expressions.Expr.{Expr}
 use Rattle.swc_ast.specs.declared.expressions.MethodProp.{MethodProp}
 use Rattle.swc_ast.specs.declared.expressions.Prop.{Prop}
 use Rattle.swc_ast.specs.declared.expressions.PropOrSpread.{PropOrSpread}
-use Rattle.swc_static.proofs.ShapedParts.{nodes, nodes_all, some_node, nodes_then}
+use Rattle.static_proofs.proofs.ShapedParts.{nodes, nodes_all, some_node, nodes_then}
 use Rattle.branch_rules.specs.Jumps.{Kinds, escapes, some_escape}
 
 -- no jump leaves a tree

@@ -1,7 +1,7 @@
 -- The names that stay of statements behind one that ends their list.
 use Rattle.std.proofs.Common.{◌≡◌, Bool, true, false, ◌==◌, if◌then◌else◌, List, [], ◌∷◌, ◌++◌, refl, sym, ap, ◌∙◌}
 use Rattle.swc_ast.specs.Tree as tree
-use Rattle.swc_ast.specs.Tree.{Name, Tree, node, Forest, ε, ◌⊳◌}
+use Rattle.swc_ast.specs.Tree.{Name, Tree, node, Forest, ε, ◌⊳◌, label_of}
 use Rattle.swc_ast.specs.Parts.{ident_name, list_trees}
 use Rattle.swc_ast.specs.SameLaws.{impossible}
 use Rattle.swc_ast.specs.Scope.{vars, vars_all, declarator_names}
@@ -24,10 +24,9 @@ use Rattle.swc_ast.specs.declared.statements.Stmt.{Stmt}
 use Rattle.swc_ast.specs.declared.statements.Stmt.TheVariants as in_stmt
 use Rattle.swc_ast.proofs.ApartStatements.{StmtForm, stmt_form, stmt_at}
 use Rattle.swc_ast.proofs.Equations.{decl_tree-Fn}
-use Rattle.swc_ast.proofs.Labels.{label}
 use Rattle.std.proofs.lemmas.List.{append-nil}
 use Rattle.branch_rules.specs.Lists.{going}
-use Rattle.swc_static.specs.Shaped.{is_lexical}
+use Rattle.static_proofs.specs.Shaped.{is_lexical}
 use Rattle.branch_rules.specs.Vars.{those, names_left, all_names_left}
 use Rattle.branch_lists.specs.Cuts.{picked, going_names}
 
@@ -47,7 +46,7 @@ by_kind kept Const ss ds = some_picked kept Const ds
 pub picked_is : (kept : Name → Bool) (n : VarDecl Expr) → picked kept (is_lexical n.kind) n.decls.items ≡ going_names kept (var_tree expr_tree n)
 picked_is kept n = by_kind kept n.kind (n.span ∷ []) n.decls.items
 
-other_names : (kept : Name → Bool) (t : Tree) → (stmt_form (label t) == 14) ≡ false → (stmt_form (label t) == 0) ≡ false → vars t ≡ going_names kept t
+other_names : (kept : Name → Bool) (t : Tree) → (stmt_form (label_of t) == 14) ≡ false → (stmt_form (label_of t) == 0) ≡ false → vars t ≡ going_names kept t
 other_names kept (node (tree.VarDecl k) ss cs) h some = impossible (sym h)
 other_names kept (node (tree.FnDecl x) ss cs) h some = impossible (sym h)
 other_names kept (node (tree.Import src) ss cs) h some = impossible (sym some)
@@ -62,7 +61,7 @@ no_declaration kept s none = by (out-Stmt s) (roll-out-Stmt s)
   where
     by : (o : StmtForm) → roll-Stmt o ≡ s → vars (stmt_tree s) ≡ going_names kept (stmt_tree s)
     by (Open.Decl n) r = absurd (none n (sym r ∙ in_stmt.rolls-Decl n))
-    by o r = other_names kept (stmt_tree s) (ap (λ x. stmt_form (label (stmt_tree x)) == 14) (sym r) ∙ ap (λ n. n == 14) (stmt_at o)) (ap (λ x. stmt_form (label (stmt_tree x)) == 0) (sym r) ∙ ap (λ n. n == 0) (stmt_at o))
+    by o r = other_names kept (stmt_tree s) (ap (λ x. stmt_form (label_of (stmt_tree x)) == 14) (sym r) ∙ ap (λ n. n == 14) (stmt_at o)) (ap (λ x. stmt_form (label_of (stmt_tree x)) == 0) (sym r) ∙ ap (λ n. n == 0) (stmt_at o))
 
 pub names_behind : (kept : Name → Bool) (t : Tree) (ts : Forest) → all_names_left kept (going (t ⊳ ts)) ≡ going_names kept t ++ all_names_left kept (going ts)
 names_behind kept t ts = by (stays_behind t)

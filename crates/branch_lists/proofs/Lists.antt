@@ -21,7 +21,7 @@ use Rattle.swc_ast.specs.declared.expressions.Expr.{Expr}
 use Rattle.swc_ast.specs.declared.modules.ModuleItem.{ModuleItem}
 use Rattle.swc_ast.specs.declared.modules.ModuleItem.TheVariants as items
 use Rattle.swc_ast.specs.declared.statements.Stmt.{Stmt}
-use Rattle.swc_static.specs.Shaped.{is_declarator_of, labels_of, all_labels}
+use Rattle.static_proofs.specs.Shaped.{is_declarator_of, labels_of, all_labels}
 use Rattle.branch_rules.specs.Lists.{Swept, none_swept, item_stays, empty_goes, block_opens, going, staying, Cut, uncut, past_item, cut_at, is_statement, all_statements, Tidied, kept_names}
 use Rattle.branch_rules.specs.Vars.{NamesOf, Unset, no_more, one_more, Declares, none_declared, some_declared}
 use Rattle.swc_utils.proofs.Chains.{joined_none, joined_assoc}

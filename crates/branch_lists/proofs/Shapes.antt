@@ -2,7 +2,7 @@
 use Rattle.std.proofs.Common.{◌≡◌, ℕ, Bool, true, false, ◌==◌, ◌&&◌, ◌≤◌, List, [], ◌∷◌, ◌++◌, length, map, refl, sym, ap, ap₂, subst, ◌∙◌, arith}
 use Rattle.std.specs.Cmp.{unsigned_Decides}
 use Rattle.swc_ast.specs.Tree as tree
-use Rattle.swc_ast.specs.Tree.{Name, Label, Tree, node, Forest, ε, ◌⊳◌}
+use Rattle.swc_ast.specs.Tree.{Name, Label, Tree, node, Forest, ε, ◌⊳◌, label_of}
 use Rattle.swc_ast.specs.Parts.{list_trees, ident_name, word_text, option_word_text}
 use Rattle.swc_ast.specs.Redex.{is_loose, is_nothing, binds_nothing}
 use Rattle.swc_ast.specs.SameLaws.{impossible}
@@ -35,9 +35,8 @@ use Rattle.swc_ast.specs.declared.statements.SwitchStmt.{SwitchStmt}
 use Rattle.swc_ast.specs.declared.statements.WhileStmt.{WhileStmt}
 use Rattle.swc_ast.proofs.ApartStatements.{StmtForm, stmt_form, stmt_at}
 use Rattle.swc_ast.proofs.Equations.{stmt_tree-Block, stmt_tree-Empty, stmt_tree-Return, stmt_tree-Labeled, stmt_tree-Break, stmt_tree-Continue, stmt_tree-If, stmt_tree-Switch, stmt_tree-Throw, stmt_tree-Try, stmt_tree-While, stmt_tree-DoWhile, stmt_tree-For, stmt_tree-Decl, stmt_tree-Expr, if_tree-is, switch_tree-is, for_tree-is, decl_tree-Fn, decl_tree-Var}
-use Rattle.swc_ast.proofs.Labels.{label}
 use Rattle.branch_rules.specs.Lists.{is_bare, all_bare}
-use Rattle.swc_static.specs.Shaped.{is_lexical}
+use Rattle.static_proofs.specs.Shaped.{is_lexical}
 use Rattle.branch_lists.specs.Swept.{contents}
 
 -- a declaration, opened
@@ -160,7 +159,7 @@ loose_stmt s is = loose_at (stmt_tree s) (shape s) is
 
 -- the statements of what is no block
 
-other_contents : (t : Tree) → (stmt_form (label t) == 1) ≡ false → contents t ≡ ε
+other_contents : (t : Tree) → (stmt_form (label_of t) == 1) ≡ false → contents t ≡ ε
 other_contents (node tree.Block ss cs) h = impossible (sym h)
 other_contents (node _ ss cs) h = refl
 
@@ -169,7 +168,7 @@ no_contents s none = by (out-Stmt s) (roll-out-Stmt s)
   where
     by : (o : StmtForm) → roll-Stmt o ≡ s → contents (stmt_tree s) ≡ ε
     by (Open.Block n) r = absurd (none n (sym r ∙ in_stmt.rolls-Block n))
-    by o r = other_contents (stmt_tree s) (ap (λ x. stmt_form (label (stmt_tree x)) == 1) (sym r) ∙ ap (λ n. n == 1) (stmt_at o))
+    by o r = other_contents (stmt_tree s) (ap (λ x. stmt_form (label_of (stmt_tree x)) == 1) (sym r) ∙ ap (λ n. n == 1) (stmt_at o))
 
 -- declarations that declare nothing but by `var`
 

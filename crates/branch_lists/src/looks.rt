@@ -6,7 +6,7 @@ ghost use Rattle.swc_ast.specs.Redex as redex;
 ghost use Rattle.swc_ast.specs.Statements.{var_tree};
 ghost use Rattle.swc_ast.specs.Views.{decl_tree, expr_tree, stmt_tree};
 ghost use Rattle.swc_ast.specs.Weight as weight;
-ghost use Rattle.swc_static.specs.Shaped as shaped;
+ghost use Rattle.static_proofs.specs.Shaped as shaped;
 ghost use Rattle.branch_rules.specs.Lists as lists;
 ghost use Rattle.branch_lists.specs.Swept.{trees};
 

@@ -5,7 +5,7 @@ use Rattle.std.specs.declared.boxed.Box.{Box}
 use Rattle.swc_ast.specs.Parts.{absent, tree_or_absent}
 use Rattle.swc_ast.specs.SameLaws.{impossible}
 use Rattle.swc_ast.specs.Statements.{for_node, option_init_tree}
-use Rattle.swc_ast.specs.Tree.{For, Tree, node, ε, ◌⊳◌}
+use Rattle.swc_ast.specs.Tree.{For, Tree, node, ε, ◌⊳◌, label_of}
 use Rattle.swc_ast.specs.Views.{expr_tree, for_tree, stmt_tree}
 use Rattle.swc_ast.specs.Weight.{own_weight, weight, is_truth_or_absent}
 use Rattle.swc_ast.specs.declared.Span.{Span}
@@ -14,11 +14,10 @@ use Rattle.swc_ast.specs.declared.statements.ForStmt.{ForStmt}
 use Rattle.swc_ast.specs.declared.statements.Stmt.{Stmt}
 use Rattle.swc_ast.specs.declared.statements.VarDeclOrExpr.{VarDeclOrExpr}
 use Rattle.swc_ast.proofs.Equations.{for_tree-is}
-use Rattle.swc_static.specs.Drawn.{is_expression}
-use Rattle.swc_static.specs.Names.{label_of}
+use Rattle.swc_ast.specs.Labels.{is_expression}
 use Rattle.swc_utils.specs.Known.{truth, pure_truth}
 use Rattle.swc_utils.specs.Pure.{pure}
-use Rattle.pass_steps.proofs.ExprTrees.{is_an_expression}
+use Rattle.pass_proofs.proofs.ExprTrees.{is_an_expression}
 use Rattle.branch_rules.specs.Removes.{statement}
 use Rattle.branch_rules.specs.Statements.{is_optional, StatementStep, Part, part_goes, part_left, for_first, for_update, for_true, for_false, for_no_update, for_no_body, for_never}
 use Rattle.branch_rules.specs.Turns.{Turns, by_rule}

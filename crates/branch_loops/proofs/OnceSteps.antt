@@ -17,7 +17,7 @@ use Rattle.swc_ast.specs.declared.statements.Stmt.TheVariants as in_stmt
 use Rattle.swc_ast.proofs.Equations.{loop_trees-is, stmt_tree-For, for_tree-is}
 use Rattle.swc_utils.specs.Known.{truth, pure_truth}
 use Rattle.swc_utils.specs.Pure.{pure}
-use Rattle.pass_steps.proofs.ExprTrees.{is_an_expression}
+use Rattle.pass_proofs.proofs.ExprTrees.{is_an_expression}
 use Rattle.branch_rules.specs.Jumps.{escapes, some_escape}
 use Rattle.branch_rules.specs.Once.{looping, is_jump, all_functions, whole, a_jump, inside, do_once}
 use Rattle.branch_rules.specs.Removes.{statement, once}

@@ -14,7 +14,7 @@ use Rattle.swc_ast.specs.declared.statements.ForStmt.{ForStmt}
 use Rattle.swc_ast.specs.declared.statements.Stmt.{Stmt}
 use Rattle.swc_ast.specs.declared.statements.WhileStmt.{WhileStmt}
 use Rattle.swc_ast.proofs.Equations.{loop_trees-is, for_tree-is}
-use Rattle.swc_static.specs.Free.{kind_at}
+use Rattle.static_proofs.specs.Free.{kind_at}
 use Rattle.swc_utils.specs.Known.{pure_truth}
 use Rattle.swc_utils.specs.Sound.{known}
 use Rattle.swc_utils.specs.declared.answers.Value.{Value as Answer}

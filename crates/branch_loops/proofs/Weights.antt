@@ -13,12 +13,11 @@ use Rattle.swc_ast.specs.declared.statements.ThrowStmt.{ThrowStmt}
 use Rattle.swc_ast.specs.Parts.{list_trees, optional_trees, word_text}
 use Rattle.swc_ast.specs.Scope.{vars, vars_all, own_vars, holds_statements, has_name}
 use Rattle.swc_ast.specs.Tree as tree
-use Rattle.swc_ast.specs.Tree.{Text, Name, Label, Block, ExprStmt, If, While, DoWhile, For, Switch, Try, NumLit, Param, Declarator, Tree, node, Forest, ε, ◌⊳◌}
+use Rattle.swc_ast.specs.Tree.{Text, Name, Label, Block, ExprStmt, If, While, DoWhile, For, Switch, Try, NumLit, Param, Declarator, Tree, node, Forest, ε, ◌⊳◌, label_of}
 use Rattle.swc_ast.specs.Views.{expr_tree, stmt_tree}
 use Rattle.swc_ast.specs.Weight.{own_weight, weight, weight_all}
 use Rattle.swc_ast.proofs.ApartStatements.{StmtForm, stmt_form, stmt_number, stmt_at}
 use Rattle.swc_ast.proofs.Equations.{stmt_tree-Block, stmt_tree-Labeled, stmt_tree-Return, stmt_tree-Throw}
-use Rattle.swc_ast.proofs.Labels.{label}
 use Rattle.swc_ast.specs.SameLaws.{impossible}
 use Rattle.branch_rules.specs.Statements.{as_statement}
 use Rattle.branch_rules.specs.Vars.{each_once, Unset, no_more, one_more, Declares, none_declared, some_declared}
@@ -57,7 +56,7 @@ no_own_vars : (l : Label) → 1 ≤ stmt_form l → own_vars l ≡ []
 no_own_vars (Declarator k x) h = absurd (omega (arith, h))
 no_own_vars l h = refl
 
-formed_more : (t : Tree) → 1 ≤ stmt_form (label t) → 4 * length (vars t) + 1 ≤ weight t
+formed_more : (t : Tree) → 1 ≤ stmt_form (label_of t) → 4 * length (vars t) + 1 ≤ weight t
 formed_more (node l ss cs) h = omega (arith, own_more l cs h, ap length (no_own_vars l h), inner_vars (holds_statements l) (vars_all cs) (weight_all cs) (all_vars_weight cs), length-append (own_vars l) (if holds_statements l then vars_all cs else []))
 
 numbered : (o : StmtForm) → 1 ≤ stmt_number o
@@ -65,7 +64,7 @@ numbered (Open.Empty n) = omega arith
 numbered _ = omega arith
 
 statement_more : (s : Stmt) → 4 * length (vars (stmt_tree s)) + 1 ≤ weight (stmt_tree s)
-statement_more s = formed_more (stmt_tree s) (subst (λ x. 1 ≤ stmt_form (label (stmt_tree x))) (roll-out-Stmt s) (subst (λ n. 1 ≤ n) (sym (stmt_at (out-Stmt s))) (numbered (out-Stmt s))))
+statement_more s = formed_more (stmt_tree s) (subst (λ x. 1 ≤ stmt_form (label_of (stmt_tree x))) (roll-out-Stmt s) (subst (λ n. 1 ≤ n) (sym (stmt_at (out-Stmt s))) (numbered (out-Stmt s))))
 
 -- what a declaration weighs
 
@@ -117,7 +116,7 @@ unfolding own_weight
 try_weight None cs = omega arith
 try_weight (Some p) cs = omega arith
 
-other_heavy : (t : Tree) → (stmt_form (label t) ≡ 1 → ⊥) → is_heavy t ≡ true → Outweighs t
+other_heavy : (t : Tree) → (stmt_form (label_of t) ≡ 1 → ⊥) → is_heavy t ≡ true → Outweighs t
 unfolding own_weight
 other_heavy (node Block ss cs) n h = absurd (n refl)
 other_heavy (node ExprStmt ss cs) n h = heavy _ (omega arith)
@@ -134,7 +133,7 @@ outweighs s h = by (out-Stmt s) (roll-out-Stmt s)
   where
     by : (o : StmtForm) → roll-Stmt o ≡ s → Outweighs (stmt_tree s)
     by (Open.Block n) r = subst Outweighs (sym (ap stmt_tree (sym r ∙ in_stmt.rolls-Block n) ∙ stmt_tree-Block n)) (block_heavy (n.span ∷ []) n.stmts.items)
-    by o r = other_heavy (stmt_tree s) (λ e. omega (arith, e, ap (λ x. stmt_form (label (stmt_tree x))) (sym r) ∙ stmt_at o)) h
+    by o r = other_heavy (stmt_tree s) (λ e. omega (arith, e, ap (λ x. stmt_form (label_of (stmt_tree x))) (sym r) ∙ stmt_at o)) h
 
 pub statement_outweighs : (s : Stmt) (b : Bool) → b ≡ is_heavy (stmt_tree s) → b ≡ true → Outweighs (stmt_tree s)
 statement_outweighs s b e h = outweighs s (sym e ∙ h)
@@ -156,7 +155,7 @@ pub return_outweighs : (s : Stmt) (n : ReturnStmt Expr) → s ≡ in_stmt.Return
 return_outweighs s n is h = subst Outweighs (sym (ap stmt_tree is ∙ stmt_tree-Return n)) (return_heavy (n.span ∷ []) (optional_trees expr_tree n.arg) h)
 
 -- a statement with `var` names in it weighs 2 by itself
-room_by_label : (t : Tree) → 1 ≤ stmt_form (label t) → names_weight (vars t) ≤ weight t + 1
+room_by_label : (t : Tree) → 1 ≤ stmt_form (label_of t) → names_weight (vars t) ≤ weight t + 1
 unfolding own_weight
 room_by_label (node Block ss cs) h = omega (arith, at_most (vars_all cs), all_vars_weight cs)
 room_by_label (node If ss cs) h = omega (arith, at_most (vars_all cs), all_vars_weight cs)
@@ -177,7 +176,7 @@ room_by_label (node (tree.FnDecl x) ss cs) h = omega arith
 room_by_label (node _ ss cs) h = absurd (omega (arith, h))
 
 room : (s : Stmt) → names_weight (vars (stmt_tree s)) ≤ weight (stmt_tree s) + 1
-room s = room_by_label (stmt_tree s) (subst (λ x. 1 ≤ stmt_form (label (stmt_tree x))) (roll-out-Stmt s) (subst (λ n. 1 ≤ n) (sym (stmt_at (out-Stmt s))) (numbered (out-Stmt s))))
+room s = room_by_label (stmt_tree s) (subst (λ x. 1 ≤ stmt_form (label_of (stmt_tree x))) (roll-out-Stmt s) (subst (λ n. 1 ≤ n) (sym (stmt_at (out-Stmt s))) (numbered (out-Stmt s))))
 
 label_heavy : (l : Text) (ss : List Span) (s : Stmt) → Outweighs (node (tree.Labeled l) ss (stmt_tree s ⊳ ε))
 unfolding own_weight

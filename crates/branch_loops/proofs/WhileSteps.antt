@@ -9,7 +9,7 @@ use Rattle.swc_ast.specs.declared.statements.WhileStmt.{WhileStmt}
 use Rattle.swc_ast.proofs.Equations.{loop_trees-is}
 use Rattle.swc_utils.specs.Known.{truth, pure_truth}
 use Rattle.swc_utils.specs.Pure.{pure}
-use Rattle.pass_steps.proofs.ExprTrees.{is_an_expression}
+use Rattle.pass_proofs.proofs.ExprTrees.{is_an_expression}
 use Rattle.branch_rules.specs.Removes.{statement}
 use Rattle.branch_rules.specs.Statements.{while_true, while_false, while_never}
 use Rattle.branch_rules.specs.Turns.{Turns, by_rule}

@@ -1,10 +1,9 @@
 -- What loops and their bodies become.
 use Rattle.std.specs.Prelude.{ℕ, ◌<◌, ◌≡◌, Bool, true, false, List, [], ◌∷◌}
 use Rattle.swc_ast.specs.declared.Span.{Span}
-use Rattle.swc_ast.specs.Tree.{BoolLit, Block, ExprStmt, If, While, DoWhile, For, Switch, Try, Tree, node, Forest, ε, ◌⊳◌}
+use Rattle.swc_ast.specs.Tree.{BoolLit, Block, ExprStmt, If, While, DoWhile, For, Switch, Try, Tree, node, Forest, ε, ◌⊳◌, label_of}
 use Rattle.swc_ast.specs.Weight.{weight}
-use Rattle.swc_static.specs.Drawn.{is_expression}
-use Rattle.swc_static.specs.Names.{label_of}
+use Rattle.swc_ast.specs.Labels.{is_expression}
 use Rattle.branch_rules.specs.Statements.{as_statement, Part}
 use Rattle.branch_rules.specs.Vars.{VarsOf}
 

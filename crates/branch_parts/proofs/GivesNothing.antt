@@ -31,7 +31,7 @@ use Rattle.swc_ast.specs.declared.statements.TryStmt.{TryStmt}
 use Rattle.swc_ast.specs.declared.statements.WhileStmt.{WhileStmt}
 use Rattle.swc_ast.proofs.ApartStatements.{StmtForm}
 use Rattle.swc_ast.proofs.Equations.{stmt_tree-Block, stmt_tree-Empty, stmt_tree-Return, stmt_tree-Labeled, stmt_tree-Break, stmt_tree-Continue, stmt_tree-If, stmt_tree-Switch, stmt_tree-Throw, stmt_tree-Try, stmt_tree-While, stmt_tree-DoWhile, stmt_tree-For, stmt_tree-Decl, stmt_tree-Expr, if_tree-is, switch_tree-is, for_tree-is, decl_tree-Fn, decl_tree-Var}
-use Rattle.swc_static.proofs.ShapedParts.{nodes, nodes_all, some_node}
+use Rattle.static_proofs.proofs.ShapedParts.{nodes, nodes_all, some_node}
 use Rattle.branch_rules.specs.Statements.{gives_nothing, all_give_nothing}
 
 -- a declaration, opened

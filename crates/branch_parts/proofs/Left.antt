@@ -9,7 +9,7 @@ use Rattle.swc_ast.specs.Tree.{Block, Tree, node, Forest, ε, ◌⊳◌}
 use Rattle.swc_ast.specs.Views.{expr_tree, stmt_tree}
 use Rattle.swc_utils.specs.Pure.{pure}
 use Rattle.swc_utils.proofs.Chains.{joined_none}
-use Rattle.pass_steps.proofs.ExprTrees.{is_an_expression}
+use Rattle.pass_proofs.proofs.ExprTrees.{is_an_expression}
 use Rattle.branch_rules.specs.Ignored.{Ignores, stays}
 use Rattle.branch_rules.specs.Statements.{as_statement, nothing_alone, left_alone}
 use Rattle.branch_expressions.specs.Left.{IsLeft}

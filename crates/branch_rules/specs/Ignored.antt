@@ -5,7 +5,7 @@ use Rattle.swc_ast.specs.declared.UnaryOp.{UnaryOp}
 use Rattle.swc_ast.specs.declared.BinaryOp.{BinaryOp}
 use Rattle.swc_ast.specs.declared.BinaryOp.TheVariants.{LogicalOr, LogicalAnd, NullishCoalescing}
 use Rattle.swc_ast.specs.declared.AssignOp.TheVariants.{Assign as Plain}
-use Rattle.swc_ast.specs.Tree.{Text, Name, Key, Fn, ItemKind, Plain as PlainItem, Spread, Hole, Read, Template, Array, Object, KeyValue, Shorthand, Method, PlainKey, ComputedKey, Unary, Binary, Cond, Seq, Call, New, Assign, Tree, node, Forest, ε, ◌⊳◌}
+use Rattle.swc_ast.specs.Tree.{Text, Name, Key, Fn, ItemKind, Plain as PlainItem, Spread, Hole, Read, Template, Array, Object, KeyValue, Shorthand, Method, PlainKey, ComputedKey, Unary, Binary, Cond, Seq, Call, New, Assign, Tree, node, Forest, ε, ◌⊳◌, label_of}
 use Rattle.swc_ast.specs.Scope.{joined}
 use Rattle.swc_ast.specs.Meaning.{is_unresolved}
 use Rattle.swc_utils.specs.declared.answers.ValueType.{ValueType}
@@ -15,8 +15,7 @@ use Rattle.swc_utils.specs.Known.{truth}
 use Rattle.swc_utils.specs.Literals.{is_literal}
 use Rattle.swc_utils.specs.Pure.{pure, is_pure_callee, has_spread}
 use Rattle.swc_utils.specs.Types.{type_of}
-use Rattle.swc_static.specs.Drawn.{is_expression}
-use Rattle.swc_static.specs.Names.{label_of}
+use Rattle.swc_ast.specs.Labels.{is_expression}
 use Rattle.pass_rules.specs.Values.{is_nullish_type}
 
 -- an operator whose right side may not be run

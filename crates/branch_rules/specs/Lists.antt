@@ -8,7 +8,7 @@ use Rattle.swc_ast.specs.Reach.{is_exported}
 use Rattle.swc_ast.specs.Run.{exported}
 use Rattle.swc_ast.specs.Scope.{joined}
 use Rattle.swc_ast.specs.Weight.{is_stopper, stays_behind}
-use Rattle.swc_static.specs.Shaped.{is_lexical, is_declarator_of, labels_of, all_labels}
+use Rattle.static_proofs.specs.Shaped.{is_lexical, is_declarator_of, labels_of, all_labels}
 use Rattle.branch_rules.specs.Statements.{is_plain}
 use Rattle.branch_rules.specs.Vars.{NamesOf}
 

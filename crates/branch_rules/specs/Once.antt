@@ -1,12 +1,11 @@
 -- What a `do` becomes whose test is false: its body, run once.
 use Rattle.std.specs.Prelude.{ℕ, ◌≡◌, Bool, true, false, List, [], Some, None}
 use Rattle.swc_ast.specs.declared.Span.{Span}
-use Rattle.swc_ast.specs.Tree.{Block, Break, Continue, DoWhile, FnDecl, Tree, node, Forest, ε, ◌⊳◌}
+use Rattle.swc_ast.specs.Tree.{Block, Break, Continue, DoWhile, FnDecl, Tree, node, Forest, ε, ◌⊳◌, label_of}
 use Rattle.swc_ast.specs.Scope.{joined}
 use Rattle.swc_utils.specs.Known.{truth}
 use Rattle.swc_utils.specs.Pure.{pure}
-use Rattle.swc_static.specs.Drawn.{is_expression}
-use Rattle.swc_static.specs.Names.{label_of}
+use Rattle.swc_ast.specs.Labels.{is_expression}
 use Rattle.branch_rules.specs.Jumps.{Kinds, escapes, some_escape}
 use Rattle.branch_rules.specs.Statements.{is_plain, gives_nothing}
 

@@ -2,13 +2,12 @@
 use Rattle.std.specs.Prelude.{ℕ, ◌≡◌, Bool, true, false, not, ◌&&◌, List}
 use Rattle.swc_ast.specs.declared.Span.{Span}
 use Rattle.swc_ast.specs.Redex.{own_redex, list_redex, is_delete}
-use Rattle.swc_ast.specs.Tree.{Name, Label, Param, Tree, node, Forest, ε, ◌⊳◌}
+use Rattle.swc_ast.specs.Tree.{Name, Label, Param, Tree, node, Forest, ε, ◌⊳◌, label_of}
 use Rattle.swc_ast.specs.Valid.{good_shape}
 use Rattle.swc_ast.specs.Weight.{is_list}
-use Rattle.swc_static.specs.Drawn.{is_expression}
-use Rattle.swc_static.specs.Free.{is_folded, kind_at}
-use Rattle.swc_static.specs.Names.{label_of}
-use Rattle.swc_walk.specs.Pass.{Pass}
+use Rattle.swc_ast.specs.Labels.{is_expression}
+use Rattle.static_proofs.specs.Free.{is_folded, kind_at}
+use Rattle.tree_walk.specs.Pass.{Pass}
 use Rattle.pass_rules.specs.Defaults.{is_void}
 use Rattle.branch_rules.specs.Expressions.{ExpressionStep}
 use Rattle.branch_rules.specs.Lists.{Tidied, kept_names}

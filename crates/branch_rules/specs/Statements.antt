@@ -1,13 +1,13 @@
 -- What a statement becomes, its children being walked already: some statements, in order. The spans of a new node are the caller's.
 use Rattle.std.specs.Prelude.{ℕ, ◌<◌, ◌≡◌, Bool, true, false, ◌&&◌, ◌||◌, List, Option, Some, None, bytes_eq}
 use Rattle.swc_ast.specs.declared.Span.{Span}
-use Rattle.swc_ast.specs.Tree.{Text, Name, Read, This, Arrow, BoolLit, ExprStmt, Empty, Throw, Return, Block, If, While, DoWhile, For, Absent, Labeled, Break, Continue, Switch, Try, VarDecl, FnDecl, Tree, node, Forest, ε, ◌⊳◌}
+use Rattle.swc_ast.specs.Tree.{Text, Name, Read, This, Arrow, BoolLit, ExprStmt, Empty, Throw, Return, Block, If, While, DoWhile, For, Absent, Labeled, Break, Continue, Switch, Try, VarDecl, FnDecl, Tree, node, Forest, ε, ◌⊳◌, label_of}
 use Rattle.swc_ast.specs.Scope.{joined}
 use Rattle.swc_ast.specs.Weight.{weight, is_truth_or_absent}
 use Rattle.swc_utils.specs.Known.{truth}
 use Rattle.swc_utils.specs.Pure.{pure}
-use Rattle.swc_static.specs.Drawn.{is_expression, is_plain_statement}
-use Rattle.swc_static.specs.Names.{label_of}
+use Rattle.static_proofs.specs.Drawn.{is_plain_statement}
+use Rattle.swc_ast.specs.Labels.{is_expression}
 use Rattle.branch_rules.specs.Ignored.{Ignores}
 use Rattle.branch_rules.specs.Vars.{VarsOf}
 

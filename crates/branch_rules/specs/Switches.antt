@@ -1,16 +1,15 @@
 -- What a `switch` becomes: in front of its children, and when they are walked. The spans of a new node are the caller's.
 use Rattle.std.specs.Prelude.{ℕ, ◌<◌, ◌≡◌, Bool, true, false, not, ◌&&◌, ◌||◌, if◌then◌else◌, List, [], ◌∷◌, ◌++◌, Some, None}
 use Rattle.swc_ast.specs.declared.Span.{Span}
-use Rattle.swc_ast.specs.Tree.{NumLit, StrLit, BoolLit, NullLit, Read, Break, VarDecl, FnDecl, CaseBody, Block, Switch, Tree, node, Forest, ε, ◌⊳◌}
+use Rattle.swc_ast.specs.Tree.{NumLit, StrLit, BoolLit, NullLit, Read, Break, VarDecl, FnDecl, CaseBody, Block, Switch, Tree, node, Forest, ε, ◌⊳◌, label_of}
 use Rattle.swc_ast.specs.Value.{Value}
 use Rattle.swc_ast.specs.Operators.{prim, strict_equal}
 use Rattle.swc_ast.specs.Scope.{joined, vars_all, declared}
 use Rattle.swc_ast.specs.Weight.{weight, is_stopper, unreached}
 use Rattle.pass_rules.specs.Values.{value_of}
 use Rattle.swc_utils.specs.Pure.{pure, no_trees}
-use Rattle.swc_static.specs.Drawn.{is_expression}
-use Rattle.swc_static.specs.Names.{label_of}
-use Rattle.swc_static.specs.Shaped.{is_lexical}
+use Rattle.swc_ast.specs.Labels.{is_expression}
+use Rattle.static_proofs.specs.Shaped.{is_lexical}
 use Rattle.branch_rules.specs.Jumps.{Kinds, escapes, some_escape}
 use Rattle.branch_rules.specs.Lists.{all_statements}
 use Rattle.branch_rules.specs.Statements.{Alone, as_statement, is_absent, all_plain, all_give_nothing}

@@ -5,7 +5,7 @@ use Rattle.swc_ast.specs.declared.Span.{Span}
 use Rattle.swc_ast.specs.declared.VarDeclKind.TheVariants.{Var}
 use Rattle.swc_ast.specs.Tree.{Name, VarDecl, Declarator, Tree, node, Forest, ε, ◌⊳◌}
 use Rattle.swc_ast.specs.Scope.{has_name, declarator_names, vars, vars_all}
-use Rattle.swc_static.specs.Shaped.{is_lexical}
+use Rattle.static_proofs.specs.Shaped.{is_lexical}
 
 -- names, each where it stands first, without those that were seen
 abbrev pub each_once : List Name → List Name → List Name

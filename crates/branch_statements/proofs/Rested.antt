@@ -15,12 +15,11 @@ use Rattle.swc_ast.specs.Parts.{list_trees, optional_trees}
 use Rattle.swc_ast.specs.Redex.{own_redex, is_empty, is_number, is_simple_literal, is_simple_word, is_text}
 use Rattle.swc_ast.specs.Statements.{handler_param, handler_tree, option_block_tree, try_tree}
 use Rattle.swc_ast.specs.Tree as tree
-use Rattle.swc_ast.specs.Tree.{Name, Label, Tree, node, Forest, ε, ◌⊳◌}
+use Rattle.swc_ast.specs.Tree.{Name, Label, Tree, node, Forest, ε, ◌⊳◌, label_of}
 use Rattle.swc_ast.specs.Valid.{is_listed, none_listed}
 use Rattle.swc_ast.specs.Views.{expr_tree, stmt_tree}
 use Rattle.swc_ast.proofs.ApartExpressions.{ExprForm, expr_form, expr_number, expr_at}
 use Rattle.swc_ast.proofs.ApartStatements.{StmtForm, stmt_form, stmt_number, stmt_at}
-use Rattle.swc_ast.proofs.Labels.{label}
 use Rattle.swc_utils.specs.Known.{truth}
 use Rattle.swc_utils.specs.Pure.{pure}
 use Rattle.branch_rules.specs.Removes.{Rests}
@@ -85,7 +84,7 @@ not_idle_literal mark t true h k = not_word mark t (by (pure mark t) refl h)
     by true e g = cc
 
 -- what is no literal
-no_word : (t : Tree) (n : ℕ) → expr_form (label t) ≡ n → (n == 15) ≡ false → (is_number t || is_simple_word t) ≡ false
+no_word : (t : Tree) (n : ℕ) → expr_form (label_of t) ≡ n → (n == 15) ≡ false → (is_number t || is_simple_word t) ≡ false
 no_word (node (tree.NumLit z) ss cs) n h k = absurd (true≢false (ap (λ m. m == 15) h ∙ k))
 no_word (node (tree.BoolLit b) ss cs) n h k = absurd (true≢false (ap (λ m. m == 15) h ∙ k))
 no_word (node tree.NullLit ss cs) n h k = absurd (true≢false (ap (λ m. m == 15) h ∙ k))
@@ -96,7 +95,7 @@ other_word e none = by (out-Expr e) (roll-out-Expr e)
   where
     by : (p : ExprForm) → roll-Expr p ≡ e → (is_number (expr_tree e) || is_simple_word (expr_tree e)) ≡ false
     by (Open.Lit n) r = absurd (none n (sym r ∙ in_expr.rolls-Lit n))
-    by p r = no_word (expr_tree e) (expr_number p) (ap (λ x. expr_form (label (expr_tree x))) (sym r) ∙ expr_at p) refl
+    by p r = no_word (expr_tree e) (expr_number p) (ap (λ x. expr_form (label_of (expr_tree x))) (sym r) ∙ expr_at p) refl
 
 -- names, `this` and arrows
 
@@ -106,7 +105,7 @@ word_rests s (node tree.This ss cs) h = refl
 word_rests s (node tree.Arrow ss cs) h = refl
 word_rests s _ h = cc
 
-none_kept : (t : Tree) (n : ℕ) → expr_form (label t) ≡ n → (n == 14) ≡ false → (n == 1) ≡ false → (n == 17) ≡ false → false ≡ is_word t
+none_kept : (t : Tree) (n : ℕ) → expr_form (label_of t) ≡ n → (n == 14) ≡ false → (n == 1) ≡ false → (n == 17) ≡ false → false ≡ is_word t
 none_kept (node (tree.Read x) ss cs) n h i j k = absurd (true≢false (ap (λ m. m == 14) h ∙ i))
 none_kept (node tree.This ss cs) n h i j k = absurd (true≢false (ap (λ m. m == 1) h ∙ j))
 none_kept (node tree.Arrow ss cs) n h i j k = absurd (true≢false (ap (λ m. m == 17) h ∙ k))
@@ -119,7 +118,7 @@ no_kept_word e no_name no_this no_arrow = by (out-Expr e) (roll-out-Expr e)
     by (Open.Ident n) r = absurd (no_name n (sym r ∙ in_expr.rolls-Ident n))
     by (Open.This n) r = absurd (no_this n (sym r ∙ in_expr.rolls-This n))
     by (Open.Arrow n) r = absurd (no_arrow n (sym r ∙ in_expr.rolls-Arrow n))
-    by p r = none_kept (expr_tree e) (expr_number p) (ap (λ x. expr_form (label (expr_tree x))) (sym r) ∙ expr_at p) refl refl refl
+    by p r = none_kept (expr_tree e) (expr_number p) (ap (λ x. expr_form (label_of (expr_tree x))) (sym r) ∙ expr_at p) refl refl refl
 
 -- an arm that is not plain stands in a list
 
@@ -127,7 +126,7 @@ numbered : (o : StmtForm) → 1 ≤ stmt_number o
 numbered (Open.Block n) = omega arith
 numbered _ = omega arith
 
-listed_at : (t : Tree) → 1 ≤ stmt_form (label t) → is_plain t ≡ false → is_listed t ≡ true
+listed_at : (t : Tree) → 1 ≤ stmt_form (label_of t) → is_plain t ≡ false → is_listed t ≡ true
 listed_at (node (tree.VarDecl Let) ss cs) n h = refl
 listed_at (node (tree.VarDecl Const) ss cs) n h = refl
 listed_at (node (tree.FnDecl x) ss cs) n h = refl
@@ -148,8 +147,8 @@ listed_at (node tree.For ss cs) n h = cc
 listed_at (node tree.ExprStmt ss cs) n h = cc
 listed_at _ n h = absurd (omega (arith, n))
 
-stmt_formed : (s : Stmt) → 1 ≤ stmt_form (label (stmt_tree s))
-stmt_formed s = subst (λ x. 1 ≤ stmt_form (label (stmt_tree x))) (roll-out-Stmt s) (subst (λ n. 1 ≤ n) (sym (stmt_at (out-Stmt s))) (numbered (out-Stmt s)))
+stmt_formed : (s : Stmt) → 1 ≤ stmt_form (label_of (stmt_tree s))
+stmt_formed s = subst (λ x. 1 ≤ stmt_form (label_of (stmt_tree x))) (roll-out-Stmt s) (subst (λ n. 1 ≤ n) (sym (stmt_at (out-Stmt s))) (numbered (out-Stmt s)))
 
 stmt_listed : (s : Stmt) → is_plain (stmt_tree s) ≡ false → is_listed (stmt_tree s) ≡ true
 stmt_listed s h = listed_at (stmt_tree s) (stmt_formed s) h

@@ -22,11 +22,10 @@ use Rattle.swc_ast.specs.Parts.{list_trees, option_word_spans, option_word_text,
 use Rattle.swc_ast.specs.Redex.{is_empty}
 use Rattle.swc_ast.specs.Statements.{block_tree, do_while_node, handler_param, handler_spans, handler_tree, option_block_tree, try_tree, while_node}
 use Rattle.swc_ast.specs.Tree as tree
-use Rattle.swc_ast.specs.Tree.{Tree, node, Forest, ε, ◌⊳◌}
+use Rattle.swc_ast.specs.Tree.{Tree, node, Forest, ε, ◌⊳◌, label_of}
 use Rattle.swc_ast.specs.Views.{decl_tree, stmt_tree}
 use Rattle.swc_ast.proofs.ApartStatements.{StmtForm, stmt_form, stmt_number, stmt_at}
 use Rattle.swc_ast.proofs.Equations.{for_tree-is, if_tree-is, loop_trees-is, stmt_tree-Break, stmt_tree-Decl, stmt_tree-DoWhile, stmt_tree-Empty, stmt_tree-For, stmt_tree-If, stmt_tree-While}
-use Rattle.swc_ast.proofs.Labels.{label}
 use Rattle.branch_rules.specs.Statements.{all_flat, is_flat, is_plain, is_shallow}
 use Rattle.branch_statements.specs.Arms.{EmptyElse, EmptyStatement, LoneEmpty, arms, empty, empty_else, lone_empty}
 use Rattle.branch_statements.specs.Shapes.{Idles, IsBare, OneShallow, bare, idle, leaves, one_shallow}
@@ -84,7 +83,7 @@ decl_shallow s n b is h k = k ∙ sym (ap is_shallow (ap stmt_tree is ∙ stmt_t
 pub empty_shape : (s : Stmt) (n : EmptyStmt) → s ≡ in_stmt.Empty n → EmptyStatement (stmt_tree s)
 empty_shape s n is = subst EmptyStatement (sym (ap stmt_tree is ∙ stmt_tree-Empty n)) (empty (n.span ∷ []))
 
-no_empty : (t : Tree) → (stmt_form (label t) ≡ 2 → ⊥) → is_empty t ≡ false
+no_empty : (t : Tree) → (stmt_form (label_of t) ≡ 2 → ⊥) → is_empty t ≡ false
 no_empty (node tree.Empty ss cs) h = absurd (h refl)
 no_empty _ h = refl
 
@@ -92,7 +91,7 @@ pub not_empty : (s : Stmt) → ((x : _) → s ≡ in_stmt.Empty x → ⊥) → f
 not_empty s others = by (out-Stmt s) (roll-out-Stmt s)
   where
     numbers : (p : StmtForm) → roll-Stmt p ≡ s → (stmt_number p ≡ 2 → ⊥) → false ≡ is_empty (stmt_tree s)
-    numbers p r h = sym (no_empty (stmt_tree s) (λ k. h (sym (stmt_at p) ∙ ap (λ x. stmt_form (label (stmt_tree x))) r ∙ k)))
+    numbers p r h = sym (no_empty (stmt_tree s) (λ k. h (sym (stmt_at p) ∙ ap (λ x. stmt_form (label_of (stmt_tree x))) r ∙ k)))
 
     by : (p : StmtForm) → roll-Stmt p ≡ s → false ≡ is_empty (stmt_tree s)
     by (Open.Empty y) r = absurd (others y (sym r ∙ in_stmt.rolls-Empty y))

@@ -22,7 +22,7 @@ use Rattle.swc_ast.proofs.Equations.{stmt_tree-If, if_tree-is}
 use Rattle.swc_utils.specs.Known.{truth}
 use Rattle.swc_utils.specs.Pure.{pure}
 use Rattle.swc_utils.proofs.Chains.{joined_assoc, joined_none, pushed}
-use Rattle.pass_steps.proofs.ExprTrees.{is_an_expression}
+use Rattle.pass_proofs.proofs.ExprTrees.{is_an_expression}
 use Rattle.branch_rules.specs.Ignored.{Ignores, goes}
 use Rattle.branch_rules.specs.Removes.{statement}
 use Rattle.branch_rules.specs.Statements as rule

@@ -13,14 +13,13 @@ use Rattle.swc_ast.specs.declared.declarations.Decl.TheViews.{out-SwitchStmt}
 use Rattle.swc_ast.specs.Parts.{tree_or_absent}
 use Rattle.swc_ast.specs.Scope.{joined}
 use Rattle.swc_ast.specs.Statements.{is_missing, is_default_case, case_children}
-use Rattle.swc_ast.specs.Tree.{Switch, CaseBody, Tree, node, ◌⊳◌}
+use Rattle.swc_ast.specs.Tree.{Switch, CaseBody, Tree, node, ◌⊳◌, label_of}
 use Rattle.swc_ast.specs.Views as view
 use Rattle.swc_ast.specs.Views.{expr_tree, case_trees}
 use Rattle.swc_ast.proofs.Equations.{case_trees-is, switch_tree-is}
-use Rattle.swc_static.specs.Drawn.{is_expression}
-use Rattle.swc_static.specs.Names.{label_of}
+use Rattle.swc_ast.specs.Labels.{is_expression}
 use Rattle.swc_utils.proofs.Chains.{joined_assoc}
-use Rattle.pass_steps.proofs.ExprTrees.{is_an_expression}
+use Rattle.pass_proofs.proofs.ExprTrees.{is_an_expression}
 use Rattle.branch_rules.specs.Jumps.{escapes}
 use Rattle.branch_rules.specs.Removes.{Rests, cases}
 use Rattle.branch_rules.specs.Statements.{is_absent}

@@ -13,13 +13,12 @@ use Rattle.swc_ast.specs.declared.declarations.Decl.TheViews.{roll-Stmt, out-Stm
 use Rattle.swc_ast.specs.Parts.{list_trees}
 use Rattle.swc_ast.specs.Statements.{labeled_tree}
 use Rattle.swc_ast.specs.Scope.{joined, vars, vars_all, own_vars, holds_statements, has_name}
-use Rattle.swc_ast.specs.Tree.{Name, Label, Block, If, While, DoWhile, For, Labeled, Switch, Try, VarDecl, NumLit, Invalid, PlainKey, ComputedKey, Params, Param, Absent, Module, Script, Declarator, Tree, node, Forest, ε, ◌⊳◌}
+use Rattle.swc_ast.specs.Tree.{Name, Label, Block, If, While, DoWhile, For, Labeled, Switch, Try, VarDecl, NumLit, Invalid, PlainKey, ComputedKey, Params, Param, Absent, Module, Script, Declarator, Tree, node, Forest, ε, ◌⊳◌, label_of}
 use Rattle.swc_ast.specs.Value.{Value}
 use Rattle.swc_ast.specs.Views.{stmt_tree}
 use Rattle.swc_ast.specs.Weight.{own_weight, weight, weight_all}
 use Rattle.swc_ast.proofs.ApartStatements.{StmtForm, stmt_form, stmt_number, stmt_at}
 use Rattle.swc_ast.proofs.Equations.{stmt_tree-Labeled}
-use Rattle.swc_ast.proofs.Labels.{label}
 use Rattle.pass_rules.specs.Values.{value_of}
 use Rattle.branch_rules.specs.Statements.{as_statement}
 use Rattle.branch_rules.specs.Switches.{Clause, switch_tree, trees_of, bodies_of, no_default, Passed, unequal, over_default}
@@ -59,15 +58,15 @@ no_own_vars : (l : Label) → 1 ≤ stmt_form l → own_vars l ≡ []
 no_own_vars (Declarator k x) h = absurd (omega (arith, h))
 no_own_vars l h = refl
 
-formed_more : (t : Tree) → 1 ≤ stmt_form (label t) → 4 * length (vars t) + 1 ≤ weight t
+formed_more : (t : Tree) → 1 ≤ stmt_form (label_of t) → 4 * length (vars t) + 1 ≤ weight t
 formed_more (node l ss cs) h = omega (arith, own_more l cs h, ap length (no_own_vars l h), inner_vars (holds_statements l) (vars_all cs) (weight_all cs) (all_vars_weight cs), length-append (own_vars l) (if holds_statements l then vars_all cs else []))
 
 numbered : (o : StmtForm) → 1 ≤ stmt_number o
 numbered (Open.Empty n) = omega arith
 numbered _ = omega arith
 
-is_formed : (s : Stmt) → 1 ≤ stmt_form (label (stmt_tree s))
-is_formed s = subst (λ x. 1 ≤ stmt_form (label (stmt_tree x))) (roll-out-Stmt s) (subst (λ n. 1 ≤ n) (sym (stmt_at (out-Stmt s))) (numbered (out-Stmt s)))
+is_formed : (s : Stmt) → 1 ≤ stmt_form (label_of (stmt_tree s))
+is_formed s = subst (λ x. 1 ≤ stmt_form (label_of (stmt_tree x))) (roll-out-Stmt s) (subst (λ n. 1 ≤ n) (sym (stmt_at (out-Stmt s))) (numbered (out-Stmt s)))
 
 -- a statement with some `var` names weighs 3 more than they
 
@@ -89,7 +88,7 @@ unfolding own_weight
 try_weight None cs = omega arith
 try_weight (Some p) cs = omega arith
 
-other_room : (t : Tree) → 1 ≤ stmt_form (label t) → (stmt_form (label t) ≡ 4 → ⊥) → room (vars t) ≤ weight t
+other_room : (t : Tree) → 1 ≤ stmt_form (label_of t) → (stmt_form (label_of t) ≡ 4 → ⊥) → room (vars t) ≤ weight t
 unfolding own_weight
 other_room (node (Labeled l) ss cs) h n = absurd (n refl)
 other_room (node (Declarator k x) ss cs) h n = absurd (omega (arith, h))
@@ -114,7 +113,7 @@ statement_room s = by (out-Stmt s) (roll-out-Stmt s)
   where
     by : (o : StmtForm) → roll-Stmt o ≡ s → room (vars (stmt_tree s)) ≤ weight (stmt_tree s)
     by (Open.Labeled n) r = subst (λ t. room (vars t) ≤ weight t) (sym (ap stmt_tree (sym r ∙ in_stmt.rolls-Labeled n) ∙ stmt_tree-Labeled n)) (labeled_room n)
-    by o r = other_room (stmt_tree s) (is_formed s) (λ e. omega (arith, e, ap (λ x. stmt_form (label (stmt_tree x))) (sym r) ∙ stmt_at o))
+    by o r = other_room (stmt_tree s) (is_formed s) (λ e. omega (arith, e, ap (λ x. stmt_form (label_of (stmt_tree x))) (sym r) ∙ stmt_at o))
 
 list_room : (xs : List Stmt) → room (vars_all (list_trees stmt_tree xs)) ≤ weight_all (list_trees stmt_tree xs)
 list_room [] = omega arith

@@ -22,8 +22,8 @@ use Rattle.swc_ast.specs.Value.{Value}
 use Rattle.swc_ast.specs.Views as view
 use Rattle.swc_ast.specs.Views.{expr_tree, stmt_tree}
 use Rattle.swc_ast.specs.Weight.{is_stopper}
-use Rattle.swc_walk.specs.Walks.{Opened, Each, none, more}
-use Rattle.swc_static.specs.Shaped.{is_lexical}
+use Rattle.tree_walk.specs.Walks.{Opened, Each, none, more}
+use Rattle.static_proofs.specs.Shaped.{is_lexical}
 use Rattle.branch_lists.proofs.Lists.{statements_alone}
 use Rattle.branch_lists.proofs.Shapes.{bare_by_count}
 use Rattle.branch_rules.specs.Lists.{is_bare}

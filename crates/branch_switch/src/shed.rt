@@ -8,13 +8,13 @@ ghost use Rattle.swc_ast.specs.declared.statements.SwitchCase.{size-SwitchCase};
 ghost use Rattle.swc_ast.specs.declared.statements.SwitchStmt.{size-SwitchStmt};
 ghost use Rattle.swc_ast.specs.Views.{decl_tree, expr_tree, stmt_tree, switch_tree};
 ghost use Rattle.swc_utils.specs.Globals.{unresolved};
-ghost use Rattle.swc_static.specs.Shaped as shaped;
+ghost use Rattle.static_proofs.specs.Shaped as shaped;
 ghost use Rattle.branch_rules.specs.Removes.{remove_pass};
 ghost use Rattle.branch_rules.specs.Switches as rules;
 ghost use Rattle.branch_switch.specs.Clauses.{clause, clauses};
 ghost use Rattle.branch_switch.specs.Shed as sheds;
 ghost use Rattle.branch_switch.specs.Values.{value_in};
-ghost use Rattle.swc_walk.specs.Walks.{Opened};
+ghost use Rattle.tree_walk.specs.Walks.{Opened};
 
 use crate::selection::{Found, Meeting, find, is_default, met};
 use crate::sorts::sort_of;

@@ -2,15 +2,14 @@
 use Rattle.std.proofs.Common.{◌≡◌, ◌<◌, ◌≤◌, true, false, List, [], ◌∷◌, ◌++◌, length, refl, sym, ap, ◌∙◌, arith}
 use Rattle.std.proofs.lemmas.List.{append_assoc, append-nil}
 use Rattle.std.specs.Prelude.{if◌then◌else◌}
-use Rattle.swc_ast.specs.Tree.{Name, Label, Tree, node, Forest, ε, ◌⊳◌}
+use Rattle.swc_ast.specs.Tree.{Name, Label, Tree, node, Forest, ε, ◌⊳◌, label_of, children_of}
 use Rattle.swc_ast.specs.Scope.{vars, vars_all, own_vars, holds_statements}
 use Rattle.std.specs.Borrow.{Bor}
 use Rattle.swc_ast.specs.Parts.{list_trees}
 use Rattle.swc_ast.specs.Views.{stmt_tree}
 use Rattle.swc_ast.specs.declared.names.Ident.{Ident}
 use Rattle.swc_ast.specs.declared.statements.Stmt.{Stmt}
-use Rattle.swc_visit.specs.Nodes.{label_of, children_of}
-use Rattle.swc_visit.proofs.Caps.{forest_size}
+use Rattle.tree_visit.proofs.Caps.{forest_size}
 use Rattle.branch_vars.specs.Names.{names_of, opened_vars}
 
 by_parts : (t : Tree) → vars t ≡ opened_vars (label_of t) (children_of t)

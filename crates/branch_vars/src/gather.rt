@@ -2,13 +2,13 @@
 ghost use Rattle.std.specs.Prelude.{◌≡◌, ◌++◌, OnOk};
 ghost use Rattle.swc_ast.specs.Scope.{own_vars, vars};
 ghost use Rattle.swc_ast.specs.Views.{stmt_tree};
-ghost use Rattle.swc_visit.specs.Kinds.{kind_label};
-ghost use Rattle.swc_visit.specs.Nodes.{children_forest};
+ghost use Rattle.tree_visit.specs.Kinds.{kind_label};
+ghost use Rattle.tree_visit.specs.Nodes.{children_forest};
 ghost use Rattle.branch_vars.specs.Names.{names_of, optional_name, opened_vars};
 
 use std::alloc::AllocError;
 use swc_ast::{Ident, Stmt, VarDeclKind};
-use swc_visit::{Kind, Opened, open_stmt};
+use tree_visit::{Kind, Opened, open_stmt};
 
 /// The name of a declarator of `var`.
 fn var_name<'a>(kind: Kind<'a>) -> Option<&'a Ident>

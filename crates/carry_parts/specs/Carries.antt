@@ -3,8 +3,8 @@ use Rattle.std.specs.Prelude.{Bool, true, false, Option, Some, None, string_byte
 use Rattle.swc_ast.specs.Parts.{ident_name}
 use Rattle.swc_ast.specs.Tree.{Read, Tree, node}
 use Rattle.swc_ast.specs.Value.{Undefined, Null, Truth, Num, Text as TextValue}
-use Rattle.swc_links.specs.Links.{Put, nothing, a_name, a_value}
-use Rattle.swc_carry.specs.Carry as carry
+use Rattle.link_proofs.specs.Links.{Put, nothing, a_name, a_value}
+use Rattle.carry_rules.specs.Carry as carry
 use Rattle.carry_parts.specs.declared.carry.Carry.{Carry}
 use Rattle.carry_parts.specs.declared.carry.Carry.TheVariants as a
 use Rattle.carry_parts.specs.declared.carry.Pass.{Pass}

@@ -1,8 +1,8 @@
 -- What is put at each read of a tree, in the order of the text. Nodes in which nothing is put are left out.
 use Rattle.std.specs.Prelude.{if◌then◌else◌, List, [], ◌∷◌, ◌++◌}
 use Rattle.swc_ast.specs.Tree.{Name, Label, Read, TypeOfName, Shorthand, Tree, node, Forest, ε, ◌⊳◌}
-use Rattle.swc_links.specs.Links.{Put}
-use Rattle.swc_carry.specs.Carry.{Pass, constants, Facts, Carried, carried, enter, after}
+use Rattle.link_proofs.specs.Links.{Put}
+use Rattle.carry_rules.specs.Carry.{Pass, constants, Facts, Carried, carried, enter, after}
 
 -- the name that a node reads, where something may be put for it
 abbrev pub asked : Pass → Label → List Name

@@ -1,6 +1,6 @@
 //! What is carried of a name.
 ghost use Rattle.std.specs.Prelude.{◌≡◌};
-ghost use Rattle.swc_carry.specs.Carry.{or_put};
+ghost use Rattle.carry_rules.specs.Carry.{or_put};
 ghost use Rattle.carry_parts.specs.Carries.{puts_of};
 
 use swc_ast::{Ident, Str};

@@ -5,7 +5,7 @@ use Rattle.std.specs.declared.vec.Vec.{Vec}
 use Rattle.swc_ast.specs.Modules.{export_specifier_tree, item_tree, module_decl_tree}
 use Rattle.swc_ast.specs.Parts.{ident_name, list_trees, option_word_text}
 use Rattle.swc_ast.specs.Run.{export_text}
-use Rattle.swc_ast.specs.Tree.{Name, Text, Label, ExportNamed, ExportSpecifier, Tree, node, Forest, ε, ◌⊳◌, bare, bares}
+use Rattle.swc_ast.specs.Tree.{Name, Text, Label, ExportNamed, ExportSpecifier, Tree, node, Forest, ε, ◌⊳◌, bare, bares, label_of}
 use Rattle.swc_ast.specs.Views.{stmt_tree}
 use Rattle.swc_ast.specs.declared.declarations.Decl.TheOpen as Open
 use Rattle.swc_ast.specs.declared.declarations.Decl.TheViews.{out-Stmt, roll-out-Stmt}
@@ -17,14 +17,13 @@ use Rattle.swc_ast.specs.declared.modules.ModuleItem.TheVariants as items
 use Rattle.swc_ast.specs.declared.modules.NamedExport.{NamedExport}
 use Rattle.swc_ast.specs.declared.statements.Stmt.{Stmt}
 use Rattle.swc_ast.proofs.ApartStatements.{StmtForm, stmt_form, stmt_number, stmt_at}
-use Rattle.swc_ast.proofs.Labels.{label}
-use Rattle.swc_links.specs.Links.{Put, nothing, a_name, a_value}
-use Rattle.swc_carry.specs.Carry.{exported_put, respecified, reexported}
-use Rattle.swc_put.specs.Walks.{Each, none, more}
+use Rattle.link_proofs.specs.Links.{Put, nothing, a_name, a_value}
+use Rattle.carry_rules.specs.Carry.{exported_put, respecified, reexported}
+use Rattle.tree_put.specs.Walks.{Each, none, more}
 use Rattle.carry_pass.specs.Exports.{bound_name, renamed, reexported_item, specifier_label}
 
 module _ (B : Name → Bool) where
-  -- a label that exports another name, if there is one
+  -- a label_of that exports another name, if there is one
   abbrev as_label : Option Name → Name → Option Text → Label
   as_label None y o = ExportSpecifier y o
   as_label (Some x) y o = ExportSpecifier x (Some (export_text y o))
@@ -81,10 +80,10 @@ module _ (B : Name → Bool) (V : Name → Put) where
   numbered (Open.Block n) = omega arith
   numbered _ = omega arith
 
-  stmt_formed : (s : Stmt) → 1 ≤ stmt_form (label (stmt_tree s))
-  stmt_formed s = subst (λ x. 1 ≤ stmt_form (label (stmt_tree x))) (roll-out-Stmt s) (subst (λ n. 1 ≤ n) (sym (stmt_at (out-Stmt s))) (numbered (out-Stmt s)))
+  stmt_formed : (s : Stmt) → 1 ≤ stmt_form (label_of (stmt_tree s))
+  stmt_formed s = subst (λ x. 1 ≤ stmt_form (label_of (stmt_tree x))) (roll-out-Stmt s) (subst (λ n. 1 ≤ n) (sym (stmt_at (out-Stmt s))) (numbered (out-Stmt s)))
 
-  formed_kept : (t : Tree) → 1 ≤ stmt_form (label t) → reexported_item B V t ≡ t
+  formed_kept : (t : Tree) → 1 ≤ stmt_form (label_of t) → reexported_item B V t ≡ t
   formed_kept (node ExportNamed ss cs) h = absurd (omega (arith, h))
   formed_kept (node l ss cs) h = refl
 

@@ -2,7 +2,7 @@
 use Rattle.std.proofs.Common.{◌≡◌, List, [], ◌++◌, sym, ap, ◌∙◌}
 use Rattle.swc_ast.specs.Scope.{has_name, declared, list_binds}
 use Rattle.swc_ast.specs.Tree.{Name, Forest}
-use Rattle.swc_static.proofs.Names.{found_first}
+use Rattle.static_proofs.proofs.Names.{found_first}
 use Rattle.swc_resolved.specs.Names.{names}
 use Rattle.swc_resolved.specs.Parts.{forest_names}
 use Rattle.swc_resolved.specs.declared.declared.Part.TheVariants as part

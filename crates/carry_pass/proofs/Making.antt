@@ -6,12 +6,12 @@ use Rattle.swc_ast.specs.Parts.{list_trees}
 use Rattle.swc_ast.specs.Scope.{list_binds}
 use Rattle.swc_ast.specs.Tree as tree
 use Rattle.swc_ast.specs.Tree.{Name, Label, Tree, node, Forest, bare, bares}
-use Rattle.swc_links.specs.Links.{Put}
-use Rattle.swc_carry.specs.Carry.{Pass, constants, inlines, facts, starting, enter, after, written, written_all, reexported, propagated}
-use Rattle.swc_carry_facts.specs.Laws.{IsWhole, a_module, a_script}
-use Rattle.swc_carry_facts.specs.Propagation.{Propagates}
-use Rattle.swc_carry_facts.proofs.Answered.{answered}
-use Rattle.swc_carry_facts.proofs.Reexported.{reexported_bare}
+use Rattle.link_proofs.specs.Links.{Put}
+use Rattle.carry_rules.specs.Carry.{Pass, constants, inlines, facts, starting, enter, after, written, written_all, reexported, propagated}
+use Rattle.carry_proofs.specs.Laws.{IsWhole, a_module, a_script}
+use Rattle.carry_proofs.specs.Propagation.{Propagates}
+use Rattle.carry_proofs.proofs.Answered.{answered}
+use Rattle.carry_proofs.proofs.Reexported.{reexported_bare}
 use Rattle.swc_pass.specs.Chain.{GivesBack, input, other}
 use Rattle.carry_parts.specs.Carries.{puts_of}
 use Rattle.carry_puts.specs.Values.{IsPut}

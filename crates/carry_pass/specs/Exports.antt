@@ -6,8 +6,8 @@ use Rattle.swc_ast.specs.Parts.{ident_name, option_word_text}
 use Rattle.swc_ast.specs.Scope.{has_name}
 use Rattle.swc_ast.specs.declared.modules.ExportNamedSpecifier.{ExportNamedSpecifier}
 use Rattle.swc_ast.specs.declared.names.Ident.{Ident}
-use Rattle.swc_links.specs.Links.{Put, nothing, a_name, a_value}
-use Rattle.swc_carry.specs.Carry.{exported_put, exported_name, respecified}
+use Rattle.link_proofs.specs.Links.{Put, nothing, a_name, a_value}
+use Rattle.carry_rules.specs.Carry.{exported_put, exported_name, respecified}
 use Rattle.swc_resolved.specs.Names.{members}
 use Rattle.carry_reads.specs.Readings.{value_of}
 use Rattle.carry_pass.specs.declared.exports.Exports.{Exports}

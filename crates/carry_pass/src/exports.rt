@@ -6,7 +6,7 @@ ghost use Rattle.swc_ast.specs.Run.{export_text};
 ghost use Rattle.swc_ast.specs.Scope.{has_name, list_binds};
 ghost use Rattle.swc_ast.specs.Tree as tree;
 ghost use Rattle.swc_ast.specs.Tree.{bare, bares, ExportSpecifier};
-ghost use Rattle.swc_carry.specs.Carry.{respecified, reexported};
+ghost use Rattle.carry_rules.specs.Carry.{respecified, reexported};
 ghost use Rattle.swc_resolved.specs.Names.{members, names as names_of};
 ghost use Rattle.carry_parts.specs.Carries.{put_of};
 ghost use Rattle.carry_pass.specs.Exports.{binds, values, option_name, put_name, bound_name, renamed, reexported_item, specifier_label};
@@ -16,7 +16,7 @@ use carry_reads::Reading;
 use std::alloc::{AllocError, Global};
 use swc_ast::{ExportNamedSpecifier, Ident, IdentName, Module, ModuleDecl, ModuleItem};
 use swc_resolved::{Name, NameSet, Part, add_names};
-use swc_visit::Node;
+use tree_visit::Node;
 
 /// What the exports of a module that was read may name.
 #[derive(Drop)]

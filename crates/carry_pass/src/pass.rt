@@ -1,7 +1,7 @@
 //! The pass.
 ghost use Rattle.std.specs.Prelude.{◌≡◌, IfOk, IfErr};
 ghost use Rattle.swc_ast.specs.declared.errors.PassError.TheVariants.{OutOfMemory};
-ghost use Rattle.swc_carry_facts.specs.Propagation.{Propagates};
+ghost use Rattle.carry_proofs.specs.Propagation.{Propagates};
 ghost use Rattle.swc_pass.specs.Pass.{TellsChange};
 ghost use Rattle.carry_parts.specs.Carries.{pass_of};
 

@@ -2,7 +2,7 @@
 ghost use Rattle.std.specs.Prelude.{◌≡◌, IfOk, IfErr, OnOk};
 ghost use Rattle.swc_ast.specs.Tree.{bare};
 ghost use Rattle.swc_ast.specs.declared.errors.PassError.TheVariants.{OutOfMemory};
-ghost use Rattle.swc_carry_facts.specs.Laws.{IsWhole};
+ghost use Rattle.carry_proofs.specs.Laws.{IsWhole};
 ghost use Rattle.carry_parts.specs.Carries.{pass_of};
 ghost use Rattle.carry_vars.specs.Facts.{AreNamesOf};
 ghost use Rattle.carry_reads.specs.Readings.{Tells, value_of};

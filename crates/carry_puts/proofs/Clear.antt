@@ -7,12 +7,12 @@ use Rattle.swc_ast.specs.Expressions.{is_eval}
 use Rattle.swc_ast.specs.Tree.{Name, same_name, Label, Read, TypeOfName, Shorthand, Dot, Index, Declarator, Tree, node, Forest, ε, ◌⊳◌}
 use Rattle.swc_ast.specs.Scope.{is_function}
 use Rattle.swc_ast.specs.Value.{Value, Undefined, Null, Truth, Num, Text as TextValue}
-use Rattle.swc_links.specs.Links.{Put, nothing, a_name, a_value}
-use Rattle.swc_carry.specs.Carry.{Pass, constants, inlines, Facts, Carried, carried, put_unless, or_put, with_put, read_put, value_tree, first_put, entry, settling, groups, enter, leave, behind, after, after_all, starting}
-use Rattle.swc_carry.proofs.Sound.{nothing≢name}
-use Rattle.swc_carry.proofs.Sources.{From, from_nothing, from_itself, from_name, from_literal, from_value, first_from}
+use Rattle.link_proofs.specs.Links.{Put, nothing, a_name, a_value}
+use Rattle.carry_rules.specs.Carry.{Pass, constants, inlines, Facts, Carried, carried, put_unless, or_put, with_put, read_put, value_tree, first_put, entry, settling, groups, enter, leave, behind, after, after_all, starting}
+use Rattle.carry_rules.proofs.Sound.{nothing≢name}
+use Rattle.carry_rules.proofs.Sources.{From, from_nothing, from_itself, from_name, from_literal, from_value, first_from}
 use Rattle.given_shield.specs.Shield.{is_bare_callee}
-use Rattle.swc_given.specs.Formed.{is_name}
+use Rattle.given_rules.specs.Formed.{is_name}
 use Rattle.carry_puts.specs.Placed.{replaced, placed, placed_all}
 
 abbrev Free : Put → Type 0

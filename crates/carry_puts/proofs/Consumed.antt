@@ -2,22 +2,23 @@
 use Rattle.std.proofs.Common.{◌≡◌, Bool, true, false, not, ◌&&◌, if◌then◌else◌, List, [], ◌∷◌, ◌++◌, Some, refl, sym, ap, ◌∙◌}
 use Rattle.std.proofs.lemmas.Bool.{and_parts, or_from, or_right, false≢true, true≢false}
 use Rattle.std.proofs.lemmas.List.{append_assoc}
+use Rattle.swc_ast.specs.Labels.{is_name, is_expression}
 use Rattle.swc_ast.specs.declared.Span.{Span}
 use Rattle.swc_ast.specs.declared.UnaryOp.TheVariants as op
 use Rattle.swc_ast.specs.Expressions.{unary_node}
 use Rattle.swc_ast.specs.Tree as tree
 use Rattle.swc_ast.specs.Tree.{Name, Label, Tree, node, Forest, ε, ◌⊳◌}
 use Rattle.swc_ast.specs.Value.{Value, Null, Truth, Num, Text as TextValue}
-use Rattle.swc_links.specs.Links.{Put, nothing, a_name, a_value}
-use Rattle.swc_carry.specs.Carry.{Pass, constants, inlines, Facts, Carried, carried, is_exempt, read_put, value_tree, enter, after}
-use Rattle.swc_put.specs.Put as walk
-use Rattle.swc_put.specs.Put.{is_expression, chosen, expanded, under, in_turn, steps}
-use Rattle.swc_put.specs.Puts.{enter as entered, stay}
-use Rattle.swc_put.specs.declared.rules.Spot.{Spot}
+use Rattle.link_proofs.specs.Links.{Put, nothing, a_name, a_value}
+use Rattle.carry_rules.specs.Carry.{Pass, constants, inlines, Facts, Carried, carried, is_exempt, read_put, value_tree, enter, after}
+use Rattle.tree_put.specs.Put as walk
+use Rattle.tree_put.specs.Put.{chosen, expanded, under, in_turn, steps}
+use Rattle.tree_put.specs.Puts.{enter as entered, stay}
+use Rattle.tree_put.specs.declared.rules.Spot.{Spot}
 use Rattle.given_shield.specs.Shield.{is_bare_callee}
-use Rattle.swc_given.specs.Formed.{is_name, fine, formed, all_formed}
-use Rattle.swc_given.specs.Put.{here, callee, operand}
-use Rattle.swc_given.proofs.Walked.{Each, none, more, not_true, call_alone, call_dot, call_index, call_eval, type_name, type_alone}
+use Rattle.given_rules.specs.Formed.{is_name, fine, formed, all_formed}
+use Rattle.given_rules.specs.Put.{here, callee, operand}
+use Rattle.given_rules.proofs.Walked.{Each, none, more, not_true, call_alone, call_dot, call_index, call_eval, type_name, type_alone}
 use Rattle.carry_parts.specs.Reads.{asked, put_each, own_reads, reads, reads_all}
 use Rattle.carry_puts.specs.Placed.{is_asked, is_written, put_answer, taken, stays, stays_or_enters, putting, replaced, placed, placed_all}
 use Rattle.carry_puts.proofs.Clear.{Clear, clear_entered, clear_after, placed_alone, placed_unnamed}
@@ -39,10 +40,6 @@ stands_operand p (node l ss cs) = refl
 stands_callee : (p : Pass) (t : Tree) → is_bare_callee t ≡ false → stands p callee t ≡ true
 stands_callee p (node (tree.Read y) ss cs) e = ap not e
 stands_callee p (node l ss cs) e = refl
-
-abbrev is_read : Label → Bool
-is_read (tree.Read x) = true
-is_read l = false
 
 -- a node at which nothing is asked for
 abbrev asks_nothing : Label → Bool
@@ -151,7 +148,7 @@ module _ (p : Pass) (F : Facts) where
   first_of : (s : Carried) (t : Tree) (ts : Forest) (rest : List Put) → (reads_all p F s (t ⊳ ts)) ++ rest ≡ reads p F s t ++ (reads_all p F (after p F s t) ts ++ rest)
   first_of s t ts rest = append_assoc (reads p F s t) (reads_all p F (after p F s t) ts) rest
 
-  node_enters : (l : Label) (ss : List Span) (cs : Forest) (k : List Put) (o : Spot) → is_read l ≡ false → stays p l ≡ false → walk.put putting (node l ss cs) (p, k) o ≡ walk.around putting (p, k) l ss cs (steps putting cs)
+  node_enters : (l : Label) (ss : List Span) (cs : Forest) (k : List Put) (o : Spot) → is_name l ≡ false → stays p l ≡ false → walk.put putting (node l ss cs) (p, k) o ≡ walk.around putting (p, k) l ss cs (steps putting cs)
   unfolding walk.put
   node_enters (tree.Read y) ss cs k o e i = absurd (true≢false e)
   node_enters l ss cs k o e i = by (is_expression l)
@@ -259,7 +256,7 @@ module _ (p : Pass) (F : Facts) where
       ∙ parts_put p F l ss cs r i e w (enter p F l ss cs s) rest (clear_entered p F s l ss cs c) (or_from s.quiet (is_exempt p l) q i)
       ∙ ap (λ g. (replaced g l ss (placed_all p F (enter p F l ss cs s) cs), (p, rest))) (sym (puts_none p s l r))
     where
-      unread : (l : Label) → asks_nothing l ≡ true → is_read l ≡ false
+      unread : (l : Label) → asks_nothing l ≡ true → is_name l ≡ false
       unread (tree.Read x) e = absurd (false≢true e)
       unread l e = refl
 

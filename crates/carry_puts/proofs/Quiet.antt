@@ -3,8 +3,8 @@ use Rattle.std.proofs.Common.{◌≡◌, true, ◌||◌, if◌then◌else◌, Li
 use Rattle.swc_ast.specs.declared.Span.{Span}
 use Rattle.swc_ast.specs.declared.VarDeclKind.TheVariants.{Var, Let, Const}
 use Rattle.swc_ast.specs.Tree.{Label, Read, TypeOfName, Shorthand, Declarator, Tree, node, Forest, ε, ◌⊳◌}
-use Rattle.swc_links.specs.Links.{nothing}
-use Rattle.swc_carry.specs.Carry.{Pass, constants, Facts, Carried, put_unless, or_put, read_put, is_exempt, enter, leave, behind, after, after_all}
+use Rattle.link_proofs.specs.Links.{nothing}
+use Rattle.carry_rules.specs.Carry.{Pass, constants, Facts, Carried, put_unless, or_put, read_put, is_exempt, enter, leave, behind, after, after_all}
 use Rattle.carry_parts.specs.Reads.{asked, put_each, reads, reads_all}
 use Rattle.carry_puts.specs.Placed.{replaced, placed, placed_all}
 

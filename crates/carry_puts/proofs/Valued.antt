@@ -17,9 +17,9 @@ use Rattle.swc_ast.specs.declared.literals.Lit.TheVariants as lit
 use Rattle.swc_ast.specs.declared.literals.Str.{Str}
 use Rattle.swc_ast.specs.declared.names.Ident.{Ident}
 use Rattle.swc_ast.specs.declared.names.SyntaxContext.{SyntaxContext}
-use Rattle.swc_links.specs.Links.{Put}
-use Rattle.swc_carry.specs.Carry.{Pass, put_tree}
-use Rattle.swc_put.specs.Puts.{become}
+use Rattle.link_proofs.specs.Links.{Put}
+use Rattle.carry_rules.specs.Carry.{Pass, put_tree}
+use Rattle.tree_put.specs.Puts.{become}
 use Rattle.carry_parts.specs.declared.carry.Carry.{Carry}
 use Rattle.carry_parts.specs.declared.carry.Carry.TheVariants as a
 use Rattle.carry_parts.specs.Carries.{put_of, puts_of}

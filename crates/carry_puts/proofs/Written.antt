@@ -5,13 +5,13 @@ use Rattle.swc_ast.specs.declared.Span.{Span}
 use Rattle.swc_ast.specs.declared.UnaryOp.TheVariants.{TypeOf}
 use Rattle.swc_ast.specs.Tree.{Name, Label, Read, TypeOfName, Shorthand, Unary, Tree, node, Forest, ε, ◌⊳◌, bare, bares}
 use Rattle.swc_ast.specs.Value.{Value, Null, Truth, Num, Text as TextValue}
-use Rattle.swc_links.specs.Links.{Put, nothing, a_name, a_value}
-use Rattle.swc_carry.specs.Carry.{Pass, constants, inlines, Facts, facts, Carried, read_put, value_tree, rebuilt, enter, after, starting, written, written_all}
-use Rattle.swc_put.specs.Put as walk
-use Rattle.swc_put.specs.Put.{behind}
-use Rattle.swc_put.specs.Walks.{Makes}
-use Rattle.swc_given.specs.Formed.{formed}
-use Rattle.swc_given.specs.Put.{here}
+use Rattle.link_proofs.specs.Links.{Put, nothing, a_name, a_value}
+use Rattle.carry_rules.specs.Carry.{Pass, constants, inlines, Facts, facts, Carried, read_put, value_tree, rebuilt, enter, after, starting, written, written_all}
+use Rattle.tree_put.specs.Put as walk
+use Rattle.tree_put.specs.Put.{behind}
+use Rattle.tree_put.specs.Walks.{Makes}
+use Rattle.given_rules.specs.Formed.{formed}
+use Rattle.given_rules.specs.Put.{here}
 use Rattle.carry_parts.specs.Reads.{reads}
 use Rattle.carry_puts.specs.Placed.{putting, replaced, placed, placed_all}
 use Rattle.carry_puts.specs.Values.{IsPut}

@@ -4,13 +4,13 @@ use Rattle.swc_ast.specs.declared.Span.{Span}
 use Rattle.swc_ast.specs.declared.UnaryOp.TheVariants.{TypeOf}
 use Rattle.swc_ast.specs.Expressions.{is_eval}
 use Rattle.swc_ast.specs.Tree.{Name, Label, Read, Shorthand, TypeOfName, Unary, Assign, AssignDot, AssignIndex, Update, UpdateDot, UpdateIndex, Tree, node, Forest, ε, ◌⊳◌}
-use Rattle.swc_links.specs.Links.{Put, nothing, a_name, a_value}
-use Rattle.swc_carry.specs.Carry.{Pass, constants, inlines, Facts, Carried, read_put, value_tree, put_tree, enter, after}
-use Rattle.swc_put.specs.Put.{behind, as_property}
-use Rattle.swc_put.specs.Puts.{Answer, enter as entered, stay, become, Puts}
-use Rattle.swc_put.specs.declared.rules.Spot.{Spot}
-use Rattle.swc_put.specs.declared.rules.Spot.TheVariants as spot
-use Rattle.swc_given.specs.Put.{front}
+use Rattle.link_proofs.specs.Links.{Put, nothing, a_name, a_value}
+use Rattle.carry_rules.specs.Carry.{Pass, constants, inlines, Facts, Carried, read_put, value_tree, put_tree, enter, after}
+use Rattle.tree_put.specs.Put.{behind, as_property}
+use Rattle.tree_put.specs.Puts.{Answer, enter as entered, stay, become, Puts}
+use Rattle.tree_put.specs.declared.rules.Spot.{Spot}
+use Rattle.tree_put.specs.declared.rules.Spot.TheVariants as spot
+use Rattle.given_rules.specs.Put.{front}
 
 -- something may be put for a name at a spot: not where `eval` is called by its name
 abbrev pub is_asked : Pass → Spot → Name → Bool

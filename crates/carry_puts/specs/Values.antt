@@ -5,8 +5,8 @@ use Rattle.swc_ast.specs.declared.expressions.Expr.{Expr}
 use Rattle.swc_ast.specs.declared.expressions.Expr.TheVariants as in_expr
 use Rattle.swc_ast.specs.declared.literals.Lit.TheVariants as lit
 use Rattle.swc_ast.specs.Tree.{Tree, bare}
-use Rattle.swc_links.specs.Links.{Put}
-use Rattle.swc_carry.specs.Carry.{Pass, facts, starting, written}
+use Rattle.link_proofs.specs.Links.{Put}
+use Rattle.carry_rules.specs.Carry.{Pass, facts, starting, written}
 use Rattle.carry_parts.specs.Carries.{pass_of, puts_of}
 use Rattle.carry_parts.specs.Reads.{reads}
 use Rattle.carry_puts.specs.declared.putting.Putting.{Putting}

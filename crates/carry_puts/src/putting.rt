@@ -2,10 +2,10 @@
 ghost use Rattle.std.specs.Prelude.{◌≡◌, [], ◌∷◌, List, map, drop, IfOk, IfSome, IsNone};
 ghost use Rattle.swc_ast.specs.Parts.{ident_name};
 ghost use Rattle.swc_ast.specs.Views.{expr_tree};
-ghost use Rattle.swc_carry.specs.Carry as carry;
-ghost use Rattle.swc_links.specs.Links as links;
-ghost use Rattle.swc_put.specs.Answers.{answer_of};
-ghost use Rattle.swc_visit.specs.Kinds.{kind_label};
+ghost use Rattle.carry_rules.specs.Carry as carry;
+ghost use Rattle.link_proofs.specs.Links as links;
+ghost use Rattle.tree_put.specs.Answers.{answer_of};
+ghost use Rattle.tree_visit.specs.Kinds.{kind_label};
 ghost use Rattle.carry_parts.specs.Carries.{pass_of, puts_of};
 ghost use Rattle.carry_puts.specs.Placed.{is_asked, putting, stays, taken};
 ghost use Rattle.carry_puts.specs.Values.{state_of};
@@ -14,8 +14,8 @@ use crate::value::value;
 use carry_parts::{Carry, Pass, is_eval, name_of};
 use std::alloc::{AllocError, Global};
 use swc_ast::{ExportNamedSpecifier, Expr, Ident, VarDeclKind, VarDeclarator};
-use swc_put::{Put, Puts, Scope, Spot};
-use swc_visit::{Kind, open_expr};
+use tree_put::{Put, Puts, Scope, Spot};
+use tree_visit::{Kind, open_expr};
 
 /// What is still to be put at reads, in the order of the text.
 #[derive(Drop)]

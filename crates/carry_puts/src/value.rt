@@ -2,7 +2,7 @@
 ghost use Rattle.std.specs.Prelude.{◌≡◌, [], ◌∷◌, IfOk, string_bytes, pos};
 ghost use Rattle.swc_ast.specs.Tree.{Name};
 ghost use Rattle.swc_ast.specs.Views.{expr_tree};
-ghost use Rattle.swc_carry.specs.Carry.{put_tree};
+ghost use Rattle.carry_rules.specs.Carry.{put_tree};
 ghost use Rattle.carry_parts.specs.Carries.{put_of};
 ghost use Rattle.carry_puts.specs.Values.{number as number_expr};
 

@@ -8,7 +8,7 @@ use carry_parts::{Carry, Pass};
 use std::alloc::{AllocError, Global};
 use swc_ast::{Module, Script};
 use swc_pass::Whole;
-use swc_put::{put_module, put_script};
+use tree_put::{put_module, put_script};
 
 /// What the walk goes through: a module or a script.
 pub trait Walked: Whole {

@@ -4,10 +4,10 @@ use Rattle.std.proofs.lemmas.Bool.{false≢true, true≢false, not-true, not-fal
 use Rattle.std.specs.Prelude.{is_some, IsSome, option_map, option_and_then, if◌then◌else◌}
 use Rattle.swc_ast.specs.declared.Span.{Span}
 use Rattle.swc_ast.specs.Tree.{Name, same_name, Forest}
-use Rattle.swc_links.specs.Links.{Put, nothing, a_name, a_value}
-use Rattle.swc_carry.specs.Carry as carry
-use Rattle.swc_carry.specs.Carry.{Facts, Carried, or_put, put_unless, with_put, first_put, starting}
-use Rattle.swc_static.proofs.Names.{same_name_path, same_name_swap}
+use Rattle.link_proofs.specs.Links.{Put, nothing, a_name, a_value}
+use Rattle.carry_rules.specs.Carry as carry
+use Rattle.carry_rules.specs.Carry.{Facts, Carried, or_put, put_unless, with_put, first_put, starting}
+use Rattle.static_proofs.proofs.Names.{same_name_path, same_name_swap}
 use Rattle.carry_parts.specs.Carries.{put_of, puts_of}
 use Rattle.carry_parts.specs.declared.carry.Carry.{Carry}
 use Rattle.carry_parts.specs.declared.carry.Carry.TheVariants as a

@@ -4,13 +4,13 @@ use Rattle.std.proofs.lemmas.Bool.{true≢false}
 use Rattle.swc_ast.specs.declared.Span.{Span}
 use Rattle.swc_ast.specs.Scope.{has_name, param_name, param_names, joined, body_statements, case_statements}
 use Rattle.swc_ast.specs.Tree as tree
-use Rattle.swc_ast.specs.Tree.{Name, Label, Tree, node, Forest, ε, ◌⊳◌}
-use Rattle.swc_carry.specs.Carry.{function_name, item_function, list_functions, ready_at}
-use Rattle.swc_static.proofs.Names.{has_name_append}
-use Rattle.swc_visit.specs.Kinds.{kind_label}
-use Rattle.swc_visit.specs.Nodes.{label_of, children_of}
-use Rattle.swc_visit.specs.declared.kind.Kind.{Kind}
-use Rattle.swc_visit.specs.declared.kind.Kind.TheVariants as kind
+use Rattle.swc_ast.specs.Tree.{Name, Label, Tree, node, Forest, ε, ◌⊳◌, label_of, children_of}
+use Rattle.carry_rules.specs.Carry.{function_name, item_function, list_functions, ready_at}
+use Rattle.static_proofs.proofs.Names.{has_name_append}
+use Rattle.tree_visit.specs.Kinds.{kind_label}
+use Rattle.swc_ast.specs.Labels.{is_export_declaration}
+use Rattle.tree_visit.specs.declared.kind.Kind.{Kind}
+use Rattle.tree_visit.specs.declared.kind.Kind.TheVariants as kind
 use Rattle.carry_tables.specs.declared.scoped.Scoped.{Scoped}
 use Rattle.carry_vars.specs.declared.vars.Vars.{Vars}
 use Rattle.carry_reads.specs.Fronts.{Adds}
@@ -70,17 +70,13 @@ no_case v u t k labelled h = adds_none v u _ (λ x. ap (λ zs. has_name x (list_
 
 -- an item that isn't exported
 
-abbrev is_export : Label → Bool
-is_export tree.ExportDecl = true
-is_export l = false
-
-unexported : (k : Kind) → (k ≡ kind.ExportDecl → ⊥) → is_export (kind_label k) ≡ false
+unexported : (k : Kind) → (k ≡ kind.ExportDecl → ⊥) → is_export_declaration (kind_label k) ≡ false
 unexported kind.ExportDecl h = absurd (h refl)
 unexported k h = refl
 
-label_item : (l : Label) (ss : List Span) (cs : Forest) → is_export l ≡ false → function_name l ≡ item_function (node l ss cs)
+label_item : (l : Label) (ss : List Span) (cs : Forest) → is_export_declaration l ≡ false → function_name l ≡ item_function (node l ss cs)
 label_item tree.ExportDecl ss cs e = absurd (true≢false e)
 label_item l ss cs e = refl
 
 pub plain_item : (t : Tree) (k : Kind) → (k ≡ kind.ExportDecl → ⊥) → label_of t ≡ kind_label k → function_name (kind_label k) ≡ item_function t
-plain_item (node l ss cs) k h labelled = ap function_name (sym labelled) ∙ label_item l ss cs (ap is_export labelled ∙ unexported k h)
+plain_item (node l ss cs) k h labelled = ap function_name (sym labelled) ∙ label_item l ss cs (ap is_export_declaration labelled ∙ unexported k h)

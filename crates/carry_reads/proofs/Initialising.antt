@@ -8,10 +8,9 @@ use Rattle.swc_ast.specs.declared.expressions.Expr.{Expr}
 use Rattle.swc_ast.specs.Parts.{optional_trees}
 use Rattle.swc_ast.specs.Views.{expr_tree}
 use Rattle.swc_ast.specs.Tree as tree
-use Rattle.swc_ast.specs.Tree.{Label, Tree, node, Forest, ε, ◌⊳◌}
-use Rattle.swc_links.specs.Links.{nothing}
-use Rattle.swc_carry.specs.Carry.{Pass, Carried, first_put}
-use Rattle.swc_visit.specs.Nodes.{label_of, children_of}
+use Rattle.swc_ast.specs.Tree.{Label, Tree, node, Forest, ε, ◌⊳◌, label_of, children_of}
+use Rattle.link_proofs.specs.Links.{nothing}
+use Rattle.carry_rules.specs.Carry.{Pass, Carried, first_put}
 use Rattle.carry_parts.specs.Carries.{is_read_tree}
 use Rattle.carry_reads.specs.Declarations.{leaf_put}
 

@@ -3,7 +3,7 @@ use Rattle.std.proofs.Common.{◌≡◌, ℕ, Bool, true, false, ◌&&◌, ◌||
 use Rattle.std.proofs.lemmas.Bool.{false≢true}
 use Rattle.std.specs.Prelude.{is_some, option_map, if◌then◌else◌}
 use Rattle.swc_ast.specs.Tree.{Name, same_name}
-use Rattle.swc_static.proofs.Names.{same_name_path, same_name_swap}
+use Rattle.static_proofs.proofs.Names.{same_name_path, same_name_swap}
 use Rattle.carry_tables.specs.Tables.{at, item_of, Keeps}
 use Rattle.carry_tables.specs.declared.scoped.Scoped.{Scoped}
 use Rattle.carry_vars.specs.Facts.{told_steady, told_constant, told_variable, steady_of, constant_of, variable_of}

@@ -4,10 +4,10 @@ use Rattle.std.proofs.lemmas.Bool.{false≢true, le-leb, lt-leb}
 use Rattle.std.proofs.lemmas.Option.{slice_get-get_or, slice_get_past, same_Some}
 use Rattle.std.specs.Prelude.{nat_le, is_some, option_map, option_and_then, if◌then◌else◌}
 use Rattle.swc_ast.specs.Tree.{Name, same_name}
-use Rattle.swc_links.specs.Links as links
-use Rattle.swc_links.specs.Links.{Put, nothing}
-use Rattle.swc_carry.specs.Carry.{or_put, with_put}
-use Rattle.swc_static.proofs.Names.{same_name_path}
+use Rattle.link_proofs.specs.Links as links
+use Rattle.link_proofs.specs.Links.{Put, nothing}
+use Rattle.carry_rules.specs.Carry.{or_put, with_put}
+use Rattle.static_proofs.proofs.Names.{same_name_path}
 use Rattle.carry_parts.specs.Carries.{put_of, puts_of}
 use Rattle.carry_parts.specs.declared.carry.Carry.{Carry}
 use Rattle.carry_parts.specs.declared.carry.Carry.TheVariants as a

@@ -4,9 +4,9 @@ use Rattle.std.proofs.lemmas.Bool.{false≢true}
 use Rattle.std.proofs.lemmas.Option.{same_Some}
 use Rattle.std.specs.Prelude.{is_some, option_map, option_and_then, map}
 use Rattle.swc_ast.specs.Tree.{Name, same_name, Tree}
-use Rattle.swc_links.specs.Links.{Put, nothing}
-use Rattle.swc_carry.specs.Carry as carry
-use Rattle.swc_carry.specs.Carry.{Facts, facts, Carried, nothing_carried, or_put, starting, after}
+use Rattle.link_proofs.specs.Links.{Put, nothing}
+use Rattle.carry_rules.specs.Carry as carry
+use Rattle.carry_rules.specs.Carry.{Facts, facts, Carried, nothing_carried, or_put, starting, after}
 use Rattle.carry_parts.specs.Carries.{pass_of, puts_of}
 use Rattle.carry_parts.specs.Reads.{reads}
 use Rattle.carry_parts.specs.declared.carry.Carry.{Carry}

@@ -5,9 +5,9 @@ use Rattle.std.specs.Prelude.{nat_le, is_some, option_and_then, slice_get, if◌
 use Rattle.swc_ast.specs.declared.Span.{Span}
 use Rattle.swc_ast.specs.Scope.{is_function}
 use Rattle.swc_ast.specs.Tree.{Name, Label, VarDecl, ExportDecl, Forest}
-use Rattle.swc_links.specs.Links.{Put, nothing}
-use Rattle.swc_carry.specs.Carry as carry
-use Rattle.swc_carry.specs.Carry.{Carried, or_put, starting, groups, is_nowhere, is_declaration, lists, is_exempt, keeps_names, ready_at, enter, leave}
+use Rattle.link_proofs.specs.Links.{Put, nothing}
+use Rattle.carry_rules.specs.Carry as carry
+use Rattle.carry_rules.specs.Carry.{Carried, or_put, starting, groups, is_nowhere, is_declaring, lists, is_exempt, keeps_names, ready_at, enter, leave}
 use Rattle.carry_parts.specs.Carries.{pass_of, puts_of}
 use Rattle.carry_parts.specs.declared.carry.Carry.{Carry}
 use Rattle.carry_tables.specs.Tables.{at, item_of, height, Keeps, Rewinds}
@@ -62,7 +62,7 @@ module _ (r : Reader) (q : Place) (u : Tables) (w : Scoped) (l : Label) (ss : Li
   entered next nowhere within is stands a = same_state
       (state_of r (record u { ready = w }) (below_of (pass_of r.pass) l nowhere next q))
       (enter (pass_of r.pass) (facts_of r.vars) l ss cs (state_of r u q))
-      (λ x. refl) (λ x. by x (is_function l)) a.ready (ap (λ b. b || (is_declaration l && q.dummy)) stands) refl refl
+      (λ x. refl) (λ x. by x (is_function l)) a.ready (ap (λ b. b || (is_declaring l && q.dummy)) stands) refl refl
     where
       by : (x : Name) (b : Bool) → settled_of u.settled (if b then next else q.base) x ≡ (if b then (λ (y : Name). nothing) else settled_of u.settled q.base) x
       by x true = ap (λ n. settled_of u.settled n x) is ∙ none_next u.settled within x

@@ -7,14 +7,13 @@ use Rattle.swc_ast.specs.declared.expressions.Expr.{Expr}
 use Rattle.swc_ast.specs.Parts.{ident_name, optional_trees}
 use Rattle.swc_ast.specs.Scope.{is_function}
 use Rattle.swc_ast.specs.Statements.{declarator_tree}
-use Rattle.swc_ast.specs.Tree.{Name, same_name, Label, Tree, node, Forest, ε, ◌⊳◌}
+use Rattle.swc_ast.specs.Tree.{Name, same_name, Label, Tree, node, Forest, ε, ◌⊳◌, label_of, spans_of, children_of}
 use Rattle.swc_ast.specs.Views.{expr_tree}
-use Rattle.swc_links.specs.Links.{Put}
-use Rattle.swc_carry.specs.Carry as carry
-use Rattle.swc_carry.specs.Carry.{Facts, Carried, starting, groups, is_nowhere, keeps_names, ready_at, enter, leave, behind, after, after_all, with_put}
-use Rattle.swc_static.proofs.Names.{same_name_swap}
-use Rattle.swc_visit.specs.Nodes.{label_of, spans_of, children_of}
-use Rattle.swc_visit.proofs.Caps.{tree_size, forest_size, opened_smaller}
+use Rattle.link_proofs.specs.Links.{Put}
+use Rattle.carry_rules.specs.Carry as carry
+use Rattle.carry_rules.specs.Carry.{Facts, Carried, starting, groups, is_nowhere, keeps_names, ready_at, enter, leave, behind, after, after_all, with_put}
+use Rattle.static_proofs.proofs.Names.{same_name_swap}
+use Rattle.tree_visit.proofs.Caps.{tree_size, forest_size, opened_smaller}
 use Rattle.carry_parts.specs.Carries.{pass_of, puts_of}
 use Rattle.carry_parts.specs.Reads.{own_reads, reads, reads_all}
 use Rattle.carry_parts.specs.declared.carry.Carry.{Carry}

@@ -1,9 +1,9 @@
 -- What a name as an initialiser carries, by the names that are ready.
 use Rattle.std.specs.Prelude.{Bool}
 use Rattle.swc_ast.specs.Tree.{Name}
-use Rattle.swc_links.specs.Links.{Put}
-use Rattle.swc_carry.specs.Carry as carry
-use Rattle.swc_carry.specs.Carry.{nothing_carried}
+use Rattle.link_proofs.specs.Links.{Put}
+use Rattle.carry_rules.specs.Carry as carry
+use Rattle.carry_rules.specs.Carry.{nothing_carried}
 
 -- a state of which this alone is known
 abbrev pub with_ready : (Name → Bool) → carry.Carried

@@ -1,8 +1,8 @@
 -- What the first reading of a tree tells.
 use Rattle.std.specs.Prelude.{◌≡◌, map}
 use Rattle.swc_ast.specs.Tree.{Name, Tree}
-use Rattle.swc_links.specs.Links.{Put}
-use Rattle.swc_carry.specs.Carry.{Pass, facts, starting, after}
+use Rattle.link_proofs.specs.Links.{Put}
+use Rattle.carry_rules.specs.Carry.{Pass, facts, starting, after}
 use Rattle.carry_parts.specs.Carries.{puts_of}
 use Rattle.carry_parts.specs.Reads.{reads}
 use Rattle.carry_reads.specs.States.{value_at}

@@ -2,9 +2,9 @@
 use Rattle.std.specs.Prelude.{◌≡◌, ℕ, Bool, true, false, ◌&&◌, ◌||◌, if◌then◌else◌, List, [], ◌∷◌, None, option_map, position}
 use Rattle.swc_ast.specs.Scope.{is_function}
 use Rattle.swc_ast.specs.Tree.{Name, same_name, Label}
-use Rattle.swc_links.specs.Links.{Put}
-use Rattle.swc_carry.specs.Carry as carry
-use Rattle.swc_carry.specs.Carry.{Facts, Carried, or_put, starting, is_declaration, lists, is_exempt}
+use Rattle.link_proofs.specs.Links.{Put}
+use Rattle.carry_rules.specs.Carry as carry
+use Rattle.carry_rules.specs.Carry.{Facts, Carried, or_put, starting, is_declaring, lists, is_exempt}
 use Rattle.carry_parts.specs.Carries.{pass_of}
 use Rattle.carry_tables.specs.Tables.{at, item_of, height, Keeps, Rewinds}
 use Rattle.carry_tables.specs.declared.scoped.Scoped.{Scoped}
@@ -41,7 +41,7 @@ state_of r u q = record {
 abbrev pub below_of : carry.Pass → Label → Bool → ℕ → Place → Place
 below_of p l nowhere next q = record {
   base = if is_function l then next else q.base;
-  dummy = nowhere || (is_declaration l && q.dummy);
+  dummy = nowhere || (is_declaring l && q.dummy);
   listed = lists l q.listed;
   quiet = q.quiet || is_exempt p l;
 }

@@ -1,8 +1,8 @@
 -- What is carried of names of `let` and `const`, as a table has it.
 use Rattle.std.specs.Prelude.{◌≡◌, Bool, Option, is_some, option_and_then}
 use Rattle.swc_ast.specs.Tree.{Name}
-use Rattle.swc_links.specs.Links.{Put}
-use Rattle.swc_carry.specs.Carry.{with_put}
+use Rattle.link_proofs.specs.Links.{Put}
+use Rattle.carry_rules.specs.Carry.{with_put}
 use Rattle.carry_parts.specs.Carries.{puts_of}
 use Rattle.carry_parts.specs.declared.carry.Carry.{Carry}
 use Rattle.carry_tables.specs.Tables.{at}

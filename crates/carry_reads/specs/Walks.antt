@@ -1,10 +1,9 @@
 -- What reading a tree does.
 use Rattle.std.specs.Prelude.{◌≡◌, List, ◌++◌, map, Option}
-use Rattle.swc_ast.specs.Tree.{Tree, Forest}
-use Rattle.swc_carry.specs.Carry as carry
-use Rattle.swc_carry.specs.Carry.{Facts, Carried, behind, after, after_all}
-use Rattle.swc_links.specs.Links.{Put}
-use Rattle.swc_visit.specs.Nodes.{label_of, spans_of, children_of}
+use Rattle.swc_ast.specs.Tree.{Tree, Forest, label_of, spans_of, children_of}
+use Rattle.carry_rules.specs.Carry as carry
+use Rattle.carry_rules.specs.Carry.{Facts, Carried, behind, after, after_all}
+use Rattle.link_proofs.specs.Links.{Put}
 use Rattle.carry_parts.specs.Carries.{pass_of, puts_of}
 use Rattle.carry_parts.specs.Reads.{reads, reads_all}
 use Rattle.carry_parts.specs.declared.carry.Carry.{Carry}

@@ -1,14 +1,15 @@
 //! Declarations, and where they stand.
 ghost use Rattle.std.specs.Prelude.{◌≡◌, ◌+◌, ◌&&◌, [], ◌∷◌, drop, IfSome, IsNone};
+ghost use Rattle.swc_ast.specs.Tree.{label_of, spans_of};
 ghost use Rattle.swc_ast.specs.Modules.{item_tree};
 ghost use Rattle.swc_ast.specs.Redex as redex;
 ghost use Rattle.swc_ast.specs.Views.{stmt_tree, decl_tree};
-ghost use Rattle.swc_carry.specs.Carry as carry;
-ghost use Rattle.swc_visit.specs.Nodes.{node_tree, node_at, label_of, spans_of};
+ghost use Rattle.carry_rules.specs.Carry as carry;
+ghost use Rattle.tree_visit.specs.Nodes.{node_tree, node_at};
 ghost use Rattle.carry_reads.specs.Declarations.{IsDeclared};
 
 use swc_ast::{DUMMY_SP, Decl, ModuleDecl, ModuleItem, Span, Stmt, VarDeclKind, VarDeclarator};
-use swc_visit::{Node, NodeList};
+use tree_visit::{Node, NodeList};
 
 /// What a node declares.
 #[derive(Clone, Copy)]

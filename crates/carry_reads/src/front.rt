@@ -1,13 +1,14 @@
 //! Names that are ready at the head of a node.
 ghost use Rattle.std.specs.Prelude.{◌≡◌, OnOk};
+ghost use Rattle.swc_ast.specs.Tree.{label_of, children_of};
 ghost use Rattle.swc_ast.specs.Resolved.{catch_name};
 ghost use Rattle.swc_ast.specs.Scope as scope;
 ghost use Rattle.swc_ast.specs.Scope.{has_name};
 ghost use Rattle.swc_ast.specs.Statements.{handler_param};
-ghost use Rattle.swc_carry.specs.Carry as carry;
+ghost use Rattle.carry_rules.specs.Carry as carry;
 ghost use Rattle.swc_names.specs.Ids.{optional};
-ghost use Rattle.swc_visit.specs.Kinds.{kind_label};
-ghost use Rattle.swc_visit.specs.Nodes.{node_tree, label_of, children_of, children_forest};
+ghost use Rattle.tree_visit.specs.Kinds.{kind_label};
+ghost use Rattle.tree_visit.specs.Nodes.{node_tree, children_forest};
 ghost use Rattle.carry_reads.specs.Fronts.{names_in, Covers, Adds};
 
 use crate::ready::add_optional;
@@ -15,7 +16,7 @@ use carry_tables::Scoped;
 use carry_vars::Vars;
 use std::alloc::AllocError;
 use swc_ast::{CatchClause, Ident};
-use swc_visit::{Children, Kind, Node};
+use tree_visit::{Children, Kind, Node};
 
 /// Makes the names ready that are so at the head of a node. Fails where memory is refused.
 pub(crate) fn add_front<'a>(

@@ -2,7 +2,7 @@
 ghost use Rattle.std.specs.Prelude.{◌≡◌, [], ◌∷◌};
 ghost use Rattle.swc_ast.specs.Parts.{ident_name, optional_trees};
 ghost use Rattle.swc_ast.specs.Views.{expr_tree};
-ghost use Rattle.swc_carry.specs.Carry.{first_put};
+ghost use Rattle.carry_rules.specs.Carry.{first_put};
 ghost use Rattle.carry_parts.specs.Carries.{pass_of, puts_of};
 ghost use Rattle.carry_reads.specs.Fronts.{ready_of};
 ghost use Rattle.carry_reads.specs.Initials as initials;
@@ -17,7 +17,7 @@ use crate::tables::Tables;
 use carry_parts::{Carry, Pass, is_eval, name_of};
 use carry_tables::Scoped;
 use swc_ast::{Ident, VarDeclarator};
-use swc_visit::open_expr;
+use tree_visit::open_expr;
 
 /// What a carried initialiser carries: a value that has a literal, or a name that is in scope here.
 fn passed_on<'a>(

@@ -1,17 +1,17 @@
 //! What nodes are to what is carried.
 ghost use Rattle.std.specs.Prelude.{◌≡◌};
 ghost use Rattle.swc_ast.specs.Scope as scope;
-ghost use Rattle.swc_carry.specs.Carry as carry;
+ghost use Rattle.carry_rules.specs.Carry as carry;
 ghost use Rattle.swc_names.specs.Ids.{optional};
-ghost use Rattle.swc_visit.specs.Kinds.{kind_label};
-ghost use Rattle.swc_visit.specs.Nodes.{children_forest};
+ghost use Rattle.tree_visit.specs.Kinds.{kind_label};
+ghost use Rattle.tree_visit.specs.Nodes.{children_forest};
 ghost use Rattle.carry_parts.specs.Carries.{pass_of, puts_of};
 ghost use Rattle.carry_parts.specs.Reads as reads;
 ghost use Rattle.carry_reads.specs.Declarations.{leaf_put};
 
 use carry_parts::{Carry, Pass};
 use swc_ast::{Ident, UnaryOp};
-use swc_visit::{Children, Kind};
+use tree_visit::{Children, Kind};
 
 /// The name that a node reads, where something may be put for it.
 pub(crate) fn asked<'a>(pass: Pass, kind: Kind<'a>) -> Option<&'a Ident>
@@ -74,7 +74,7 @@ pub(crate) fn groups(kind: Kind<'_>) -> bool
 
 /// Whether a node is such a declaration or a declarator.
 pub(crate) fn is_declaration(kind: Kind<'_>) -> bool
-    ensures { result ≡ carry.is_declaration (kind_label kind.entry) }
+    ensures { result ≡ carry.is_declaring (kind_label kind.entry) }
 {
     match kind {
         Kind::VarDecl(_) | Kind::Declarator(_, _) | Kind::ExportDecl => true,

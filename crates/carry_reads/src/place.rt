@@ -1,12 +1,12 @@
 //! Where a node stands.
 ghost use Rattle.std.specs.Prelude.{◌≡◌, false};
-ghost use Rattle.swc_visit.specs.Kinds.{kind_label};
+ghost use Rattle.tree_visit.specs.Kinds.{kind_label};
 ghost use Rattle.carry_parts.specs.Carries.{pass_of};
 ghost use Rattle.carry_reads.specs.States.{below_of};
 
 use crate::kinds::{is_declaration, is_exempt, is_function, lists};
 use carry_parts::Pass;
-use swc_visit::Kind;
+use tree_visit::Kind;
 
 /// Where a node stands.
 #[derive(Clone, Copy)]

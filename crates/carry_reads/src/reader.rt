@@ -4,9 +4,9 @@ ghost use Rattle.swc_ast.specs.Parts.{ident_name, optional_trees};
 ghost use Rattle.swc_ast.specs.Statements.{declarator_tree};
 ghost use Rattle.swc_ast.specs.Views.{expr_tree};
 ghost use Rattle.swc_ast.specs.declared.VarDeclKind.TheVariants as declared;
-ghost use Rattle.swc_carry.specs.Carry as carry;
-ghost use Rattle.swc_visit.specs.Kinds.{kind_label};
-ghost use Rattle.swc_visit.specs.Nodes.{node_tree, children_forest};
+ghost use Rattle.carry_rules.specs.Carry as carry;
+ghost use Rattle.tree_visit.specs.Kinds.{kind_label};
+ghost use Rattle.tree_visit.specs.Nodes.{node_tree, children_forest};
 ghost use Rattle.carry_parts.specs.Carries.{pass_of, puts_of};
 ghost use Rattle.carry_parts.specs.Reads.{own_reads};
 ghost use Rattle.carry_reads.specs.States.{facts_of, value_at, state_of, Fits};
@@ -23,7 +23,7 @@ use carry_parts::{Carry, Pass, either};
 use carry_vars::Vars;
 use std::alloc::AllocError;
 use swc_ast::{Ident, VarDeclKind, VarDeclarator};
-use swc_visit::{Children, Kind, Node};
+use tree_visit::{Children, Kind, Node};
 
 /// Reads for a pass, by what a tree says of its names.
 #[derive(Drop)]

@@ -3,7 +3,7 @@ ghost use Rattle.std.specs.Prelude.{◌≡◌, IfOk};
 ghost use Rattle.swc_ast.specs.Modules.{module_tree, script_tree};
 ghost use Rattle.swc_ast.specs.Parts.{ident_name};
 ghost use Rattle.swc_ast.specs.Tree.{Tree};
-ghost use Rattle.swc_visit.specs.Nodes.{node_tree};
+ghost use Rattle.tree_visit.specs.Nodes.{node_tree};
 ghost use Rattle.carry_parts.specs.Carries.{pass_of, puts_of};
 ghost use Rattle.carry_vars.specs.Facts.{AreNamesOf, Tells as TellsFacts};
 ghost use Rattle.carry_reads.specs.Readings as told;
@@ -16,7 +16,7 @@ use carry_vars::Vars;
 use std::alloc::{AllocError, Global};
 use swc_ast::{Ident, Module, Script};
 use swc_names::Names;
-use swc_visit::Node;
+use tree_visit::Node;
 
 /// What is put at the reads of a tree, and what is carried at its end.
 #[derive(Drop)]

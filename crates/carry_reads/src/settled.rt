@@ -2,7 +2,7 @@
 ghost use Rattle.std.specs.Prelude.{◌≡◌, ◌≤◌, ℕ, true, [], ◌∷◌, None, IfOk, OnOk, length, option_map, position};
 ghost use Rattle.swc_ast.specs.Parts.{ident_name};
 ghost use Rattle.swc_ast.specs.Tree.{Name, same_name};
-ghost use Rattle.swc_carry.specs.Carry.{with_put};
+ghost use Rattle.carry_rules.specs.Carry.{with_put};
 ghost use Rattle.carry_parts.specs.Carries.{put_of, puts_of};
 ghost use Rattle.carry_tables.specs.Tables.{item_of};
 ghost use Rattle.carry_reads.specs.Fronts.{names_in};

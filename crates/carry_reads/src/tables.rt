@@ -1,7 +1,7 @@
 //! What is carried.
 ghost use Rattle.std.specs.Prelude.{◌≡◌, ◌&&◌, IfOk};
-ghost use Rattle.swc_carry.specs.Carry as carry;
-ghost use Rattle.swc_visit.specs.Kinds.{kind_label};
+ghost use Rattle.carry_rules.specs.Carry as carry;
+ghost use Rattle.tree_visit.specs.Kinds.{kind_label};
 ghost use Rattle.carry_tables.specs.Tables as of;
 ghost use Rattle.carry_reads.specs.States.{IsNew, Rewound, Leaves};
 
@@ -11,7 +11,7 @@ use carry_parts::Carry;
 use carry_tables::{NameTable, Scoped};
 use std::alloc::{AllocError, Global};
 use swc_names::Names;
-use swc_visit::Kind;
+use tree_visit::Kind;
 
 /// What is carried.
 #[derive(Drop)]

@@ -5,7 +5,7 @@ use Rattle.std.proofs.lemmas.Bool.{false≢true}
 use Rattle.std.proofs.lemmas.List.Quantifiers.{position-Some}
 use Rattle.std.proofs.lemmas.Option.{same_Some, slice_get-get_or, slice_get_past}
 use Rattle.swc_ast.specs.Tree.{Name, same_name}
-use Rattle.swc_static.proofs.Names.{same_name_path, same_name_itself}
+use Rattle.static_proofs.proofs.Names.{same_name_path, same_name_itself}
 
 -- items that are all one
 abbrev pub all_are : {T : Type 0} → T → List T → Type 0

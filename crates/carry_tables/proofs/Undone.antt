@@ -5,7 +5,7 @@ use Rattle.std.specs.Borrow.{Bor}
 use Rattle.swc_ast.specs.Parts.{ident_name}
 use Rattle.swc_ast.specs.Tree.{Name, same_name}
 use Rattle.swc_ast.specs.declared.names.Ident.{Ident}
-use Rattle.swc_static.proofs.Names.{same_name_path}
+use Rattle.static_proofs.proofs.Names.{same_name_path}
 use Rattle.carry_tables.specs.Tables.{undone}
 
 drop_append : {A : Type 0} (h : ℕ) (xs ys : List A) → h ≤ length xs → drop h (xs ++ ys) ≡ drop h xs ++ ys

@@ -7,9 +7,9 @@ use Rattle.std.proofs.lemmas.Option.{none-some}
 use Rattle.swc_ast.specs.Tree as tree
 use Rattle.swc_ast.specs.Tree.{Name, Label, same_name, Tree, node, Forest, ε, ◌⊳◌}
 use Rattle.swc_ast.specs.Scope.{has_name}
-use Rattle.swc_static.proofs.Names.{has_name_append, same_name_path}
+use Rattle.static_proofs.proofs.Names.{has_name_append, same_name_path}
 use Rattle.swc_names.specs.Names.{own_name, handler_name, mentioned_in, mentioned_behind, mentioned, with_name, distinct}
-use Rattle.swc_carry.specs.Carry.{one, how_many, how_many_in}
+use Rattle.carry_rules.specs.Carry.{one, how_many, how_many_in}
 use Rattle.carry_vars.specs.declared.tally.Fact.{Fact}
 use Rattle.carry_vars.specs.Told.{told_name, tells, tells_of}
 

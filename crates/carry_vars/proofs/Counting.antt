@@ -1,12 +1,11 @@
 -- Counters of what is told, node by node.
 use Rattle.std.proofs.Common.{◌≡◌, ℕ, zero, suc, ◌+◌, ◌*◌, ◌<◌, ◌≤◌, Bool, true, false, ◌||◌, ◌&&◌, [], ◌∷◌, Option, Some, None, refl, sym, ap, ap₂, ◌∙◌, arith}
 use Rattle.std.specs.Prelude.{option_map, if◌then◌else◌}
-use Rattle.swc_ast.specs.Tree.{Name, same_name, Label, Tree, node, Forest, ε, ◌⊳◌}
+use Rattle.swc_ast.specs.Tree.{Name, same_name, Label, Tree, node, Forest, ε, ◌⊳◌, label_of, children_of}
 use Rattle.swc_ast.specs.Scope.{has_name}
-use Rattle.swc_carry.specs.Carry.{one, how_many, how_many_in}
-use Rattle.swc_visit.specs.Nodes.{label_of, children_of}
-use Rattle.swc_visit.proofs.Caps.{tree_size, forest_size, opened_smaller}
-use Rattle.swc_static.proofs.Names.{same_name_path, same_name_swap}
+use Rattle.carry_rules.specs.Carry.{one, how_many, how_many_in}
+use Rattle.tree_visit.proofs.Caps.{tree_size, forest_size, opened_smaller}
+use Rattle.static_proofs.proofs.Names.{same_name_path, same_name_swap}
 use Rattle.carry_tables.specs.Tables.{at}
 use Rattle.carry_tables.specs.declared.table.NameTable.{NameTable}
 use Rattle.carry_vars.specs.declared.count.Count.{Count}

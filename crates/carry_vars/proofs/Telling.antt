@@ -7,7 +7,7 @@ use Rattle.swc_ast.specs.Scope.{has_name, option_name}
 use Rattle.swc_ast.specs.declared.VarDeclKind.TheVariants.{Var, Let, Const}
 use Rattle.swc_ast.specs.Tree.{Name, same_name, Label, Fn, Param, Assign, Update, Try, Declarator, FnDecl, ImportNamed, ImportDefault, ImportStar, ExportDefaultFn, Tree, node, Forest, ε, ◌⊳◌}
 use Rattle.swc_ast.specs.Resolved.{is_default}
-use Rattle.swc_carry.specs.Carry.{facts, one, how_many, how_many_in, writes, declares, declares_const, declares_lexical, declares_variable, declares_unset, imports}
+use Rattle.carry_rules.specs.Carry.{facts, one, how_many, how_many_in, writes, declares, declares_const, declares_lexical, declares_variable, declares_unset, imports}
 use Rattle.swc_names.specs.Names.{mentioned_in}
 use Rattle.carry_tables.specs.Tables.{at}
 use Rattle.carry_tables.specs.declared.table.NameTable.{NameTable}

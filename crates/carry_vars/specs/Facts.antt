@@ -2,7 +2,7 @@
 use Rattle.std.specs.Prelude.{◌≡◌, Bool, false, not, ◌&&◌, ◌||◌, List, Option, Some, None}
 use Rattle.swc_ast.specs.Tree.{Name, Tree}
 use Rattle.swc_ast.specs.Resolved.{is_default}
-use Rattle.swc_carry.specs.Carry.{facts}
+use Rattle.carry_rules.specs.Carry.{facts}
 use Rattle.swc_names.specs.Names.{mentioned_in, distinct}
 use Rattle.carry_tables.specs.Tables.{at}
 use Rattle.carry_vars.specs.declared.tally.Tally.{Tally}

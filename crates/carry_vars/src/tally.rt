@@ -1,8 +1,8 @@
 //! What is told of one name.
 ghost use Rattle.std.specs.Prelude.{◌≡◌};
 ghost use Rattle.swc_names.specs.Ids.{optional};
-ghost use Rattle.swc_visit.specs.Kinds.{kind_label};
-ghost use Rattle.swc_visit.specs.Nodes.{children_forest};
+ghost use Rattle.tree_visit.specs.Kinds.{kind_label};
+ghost use Rattle.tree_visit.specs.Nodes.{children_forest};
 ghost use Rattle.carry_vars.specs.Counts as counts;
 ghost use Rattle.carry_vars.specs.Told as told;
 ghost use Rattle.carry_vars.specs.declared.count.Count.TheVariants as count;
@@ -10,7 +10,7 @@ ghost use Rattle.carry_vars.specs.declared.tally.Fact as facts;
 
 use crate::count::Count;
 use swc_ast::{Ident, VarDeclKind};
-use swc_visit::{Children, Kind};
+use tree_visit::{Children, Kind};
 
 /// What a node may tell of a name.
 #[derive(Clone, Copy)]

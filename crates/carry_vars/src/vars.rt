@@ -4,9 +4,9 @@ ghost use Rattle.swc_ast.specs.Modules.{module_tree, script_tree};
 ghost use Rattle.swc_ast.specs.Parts.{ident_name};
 ghost use Rattle.swc_ast.specs.Scope.{default_name};
 ghost use Rattle.swc_ast.specs.Tree.{same_name};
-ghost use Rattle.swc_carry.specs.Carry.{how_many, how_many_in, one};
-ghost use Rattle.swc_visit.specs.Kinds.{kind_label};
-ghost use Rattle.swc_visit.specs.Nodes.{node_tree, children_forest};
+ghost use Rattle.carry_rules.specs.Carry.{how_many, how_many_in, one};
+ghost use Rattle.tree_visit.specs.Kinds.{kind_label};
+ghost use Rattle.tree_visit.specs.Nodes.{node_tree, children_forest};
 ghost use Rattle.carry_vars.specs.Told.{Notes, holds, tells_of, counted_if};
 ghost use Rattle.carry_vars.specs.Counts.{counted};
 ghost use Rattle.carry_vars.specs.Facts as told;
@@ -16,7 +16,7 @@ use carry_tables::NameTable;
 use std::alloc::{AllocError, Global};
 use swc_ast::{Ident, Module, Script, SyntaxContext};
 use swc_names::Names;
-use swc_visit::{Children, Kind, Node};
+use tree_visit::{Children, Kind, Node};
 
 /// What a module or a script says of its names.
 #[derive(Drop)]

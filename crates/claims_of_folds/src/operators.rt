@@ -1,6 +1,6 @@
 //! Folds of operators and conditions.
 ghost use Rattle.std.specs.Prelude.{◌≡◌, IfOk, IsNone, false};
-ghost use Rattle.swc_static.specs.Free.{kind_at};
+ghost use Rattle.static_proofs.specs.Free.{kind_at};
 ghost use Rattle.swc_utils.specs.Globals.{unresolved};
 ghost use Rattle.expr_rules.specs.Replaced.{Replaced, expr_redex};
 ghost use Rattle.expr_operators.specs.Nodes.{binary_of, cond_of, unary_of};

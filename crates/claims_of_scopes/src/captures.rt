@@ -2,16 +2,16 @@
 ghost use Rattle.std.specs.Prelude.{IfOk};
 ghost use Rattle.swc_ast.specs.Modules.{module_tree};
 ghost use Rattle.swc_ast.specs.Valid.{valid};
-ghost use Rattle.swc_captures.specs.Captured.{captured, no_scope};
-ghost use Rattle.swc_captures.specs.Views.{Tells};
+ghost use Rattle.tree_captures.specs.Captured.{captured, no_scope};
+ghost use Rattle.tree_captures.specs.Views.{Tells};
 
 use std::alloc::{AllocError, Global};
 use swc_ast::Module;
-use swc_captures::Fault;
+use tree_captures::Fault;
 
-/// `swc_captures::first_fault`
+/// `tree_captures::first_fault`
 pub fn first_fault(alloc: Global, m: &Module) -> Result<Option<Fault<'_>>, AllocError>
     ensures { IfOk result (Tells (captured no_scope (module_tree m.now)) (valid (module_tree m.now))) }
 {
-    swc_captures::first_fault(alloc, m)
+    tree_captures::first_fault(alloc, m)
 }

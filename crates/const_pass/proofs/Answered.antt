@@ -8,39 +8,38 @@ use Rattle.swc_ast.specs.declared.expressions.Expr.{Expr}
 use Rattle.swc_ast.specs.Core.{IsCore}
 use Rattle.swc_ast.specs.Resolved.{IsResolved}
 use Rattle.swc_ast.specs.Run.{Sees, Same}
-use Rattle.swc_ast.specs.Tree.{Text, Name, StrLit, Read, Dot, Index, Tree, node, Forest, ε, ◌⊳◌, bare}
+use Rattle.swc_ast.specs.Tree.{Text, Name, StrLit, Read, Dot, Index, Tree, node, Forest, ε, ◌⊳◌, bare, label_of}
 use Rattle.swc_ast.specs.Tree as tree
 use Rattle.swc_ast.specs.Modules.{item_tree, module_tree}
 use Rattle.swc_ast.specs.Parts.{list_trees}
 use Rattle.swc_ast.specs.declared.modules.Module.{Module}
 use Rattle.swc_ast.specs.Valid.{valid}
 use Rattle.swc_ast.specs.Views.{expr_tree}
-use Rattle.swc_meaning.specs.Roles.{label}
-use Rattle.swc_meaning.proofs.Quiet.{declares_nothing}
-use Rattle.swc_meaning.proofs.Spans.{same_bare}
+use Rattle.meaning_proofs.proofs.Quiet.{declares_nothing}
+use Rattle.meaning_proofs.proofs.Spans.{same_bare}
 use Rattle.swc_pass.specs.Chain.{GivesBack, input, other}
 use Rattle.swc_pass.specs.Constants.{Constants, constant_at, member_of, items_of, without_given, unloaded, constants}
 use Rattle.swc_pass.specs.Constants as given
 use Rattle.swc_pass.specs.Given.{Answers, SameGiven}
 use Rattle.swc_pass.specs.Pass.{SameBare}
 use Rattle.given_shield.specs.Shield.{shield}
-use Rattle.swc_given.specs.Givable.{AllGivable}
-use Rattle.swc_given.specs.Put.{here, Puts, put, put_all}
-use Rattle.swc_put.specs.Still.{still}
-use Rattle.swc_put.specs.Walks.{Makes}
-use Rattle.swc_given.specs.Walk.{put_answer}
-use Rattle.swc_given.specs.Worked.{Finished, finished, puts}
-use Rattle.swc_given.proofs.FormedViews.{module_formed}
-use Rattle.swc_given.proofs.Givable.{puts_givable}
-use Rattle.swc_given.proofs.Instances.{constant_same}
-use Rattle.swc_given.proofs.Kept.{PutsGivable, put_resolved, put_core, put_valid}
+use Rattle.given_rules.specs.Givable.{AllGivable}
+use Rattle.given_rules.specs.Put.{here, Puts, put, put_all}
+use Rattle.tree_put.specs.Still.{still}
+use Rattle.tree_put.specs.Walks.{Makes}
+use Rattle.given_rules.specs.Walk.{put_answer}
+use Rattle.given_rules.specs.Worked.{Finished, finished, puts}
+use Rattle.given_rules.proofs.FormedViews.{module_formed}
+use Rattle.given_rules.proofs.Givable.{puts_givable}
+use Rattle.given_rules.proofs.Instances.{constant_same}
+use Rattle.given_rules.proofs.Kept.{PutsGivable, put_resolved, put_core, put_valid}
 use mathlib.Core.Path.{fun_ext}
-use Rattle.const_rules.specs.Faults.{faults}
-use Rattle.const_rules.specs.Locals.{locals}
-use Rattle.const_rules.specs.Views.{is_given, value_of, has_value, constants_of, of_text, group_of, IsFirst, constant_in, member_in}
-use Rattle.const_rules.specs.declared.given.GivenModules.{GivenModules}
-use Rattle.const_rules.proofs.Constants.{constant_is, member_is}
-use Rattle.const_rules.proofs.Keeping.{unloaded_valid, unloaded_core, unloaded_resolved}
+use Rattle.const_imports.specs.Faults.{faults}
+use Rattle.const_imports.specs.Locals.{locals}
+use Rattle.const_imports.specs.Views.{is_given, value_of, has_value, constants_of, of_text, group_of, IsFirst, constant_in, member_in}
+use Rattle.const_imports.specs.declared.given.GivenModules.{GivenModules}
+use Rattle.const_imports.proofs.Constants.{constant_is, member_is}
+use Rattle.const_imports.proofs.Keeping.{unloaded_valid, unloaded_core, unloaded_resolved}
 use Rattle.const_pass.specs.Replaced.{has_export, IsPut, Replaced}
 use Rattle.const_pass.specs.Rules.{state}
 use Rattle.const_pass.specs.declared.rules.Constants as rust
@@ -52,22 +51,22 @@ some_same e = cc
 
 -- what is given is an expression
 
-mapped : (o : Option Expr) (v : Tree) → option_map expr_tree o ≡ Some v → declares_nothing (label v) ≡ true
+mapped : (o : Option Expr) (v : Tree) → option_map expr_tree o ≡ Some v → declares_nothing (label_of v) ≡ true
 mapped None v e = cc
-mapped (Some x) v e = subst (λ u. declares_nothing (label u) ≡ true) (some_same e) (expr_declares_nothing x)
+mapped (Some x) v e = subst (λ u. declares_nothing (label_of u) ≡ true) (some_same e) (expr_declares_nothing x)
 
 module _ (g : GivenModules Expr) (items : Forest) where
   abbrev K : Constants
   K = constants_of expr_tree g
 
-  by_name : (x : Name) (v : Tree) → given.constant K items x ≡ Some v → declares_nothing (label v) ≡ true
+  by_name : (x : Name) (v : Tree) → given.constant K items x ≡ Some v → declares_nothing (label_of v) ≡ true
   by_name x v e = mapped (constant_in (value_of g) (locals (is_given g) items) x) v (constant_is expr_tree g items x ∙ e)
 
-  by_member : (o : Tree) (m : Text) (v : Tree) → member_of K items o m ≡ Some v → declares_nothing (label v) ≡ true
+  by_member : (o : Tree) (m : Text) (v : Tree) → member_of K items o m ≡ Some v → declares_nothing (label_of v) ≡ true
   by_member (node (Read x) ss cs) m v e = mapped (member_in (value_of g) (locals (is_given g) items) x m) v (member_is expr_tree g items x m ∙ e)
   by_member (node l ss cs) m v e = cc
 
-  pub are_expressions : (t v : Tree) → constant_at K items t ≡ Some v → declares_nothing (label v) ≡ true
+  pub are_expressions : (t v : Tree) → constant_at K items t ≡ Some v → declares_nothing (label_of v) ≡ true
   are_expressions (node (Read x) ss cs) v e = by_name x v e
   are_expressions (node (Dot m) ss ε) v e = cc
   are_expressions (node (Dot m) ss (o ⊳ ε)) v e = by_member o m v e

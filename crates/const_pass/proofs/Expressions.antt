@@ -3,11 +3,10 @@ use Rattle.std.proofs.Common.{◌≡◌, ◌≤◌, true, sym, subst, arith, ref
 use Rattle.swc_ast.specs.declared.declarations.Decl.TheOpen as Open
 use Rattle.swc_ast.specs.declared.declarations.Decl.TheViews.{out-Expr, roll-out-Expr}
 use Rattle.swc_ast.specs.declared.expressions.Expr.{Expr}
-use Rattle.swc_ast.specs.Tree.{Label, Params, Body, Param, CaseBody, VarDecl, Declarator, FnDecl, Module, Script, Import, ImportNamed, ImportDefault, ImportStar, ExportDecl, ExportNamed, ExportSpecifier, ExportDefaultFn, ExportDefaultExpr, Block, If, While, DoWhile, For, Labeled, Switch, Try}
+use Rattle.swc_ast.specs.Tree.{Label, Params, Body, Param, CaseBody, VarDecl, Declarator, FnDecl, Module, Script, Import, ImportNamed, ImportDefault, ImportStar, ExportDecl, ExportNamed, ExportSpecifier, ExportDefaultFn, ExportDefaultExpr, Block, If, While, DoWhile, For, Labeled, Switch, Try, label_of}
 use Rattle.swc_ast.specs.Views.{expr_tree}
 use Rattle.swc_ast.proofs.ApartExpressions.{ExprForm, expr_form, expr_number, expr_at}
-use Rattle.swc_meaning.specs.Roles.{label}
-use Rattle.swc_meaning.proofs.Quiet.{declares_nothing}
+use Rattle.meaning_proofs.proofs.Quiet.{declares_nothing}
 
 numbered : (o : ExprForm) → 1 ≤ expr_number o
 numbered (Open.This n) = omega arith
@@ -43,5 +42,5 @@ silent (Try o) h = absurd (omega (arith, h))
 silent _ h = refl
 
 -- an expression declares nothing
-pub expr_declares_nothing : (e : Expr) → declares_nothing (label (expr_tree e)) ≡ true
-expr_declares_nothing e = subst (λ x. declares_nothing (label (expr_tree x)) ≡ true) (roll-out-Expr e) (silent _ (subst (λ n. 1 ≤ n) (sym (expr_at (out-Expr e))) (numbered (out-Expr e))))
+pub expr_declares_nothing : (e : Expr) → declares_nothing (label_of (expr_tree e)) ≡ true
+expr_declares_nothing e = subst (λ x. declares_nothing (label_of (expr_tree x)) ≡ true) (roll-out-Expr e) (silent _ (subst (λ n. 1 ≤ n) (sym (expr_at (out-Expr e))) (numbered (out-Expr e))))

@@ -4,7 +4,7 @@ use Rattle.std.proofs.lemmas.Bool.{true≢false}
 use Rattle.std.specs.Borrow.{Bor}
 use Rattle.swc_ast.specs.Expressions.{member_node, member_tree}
 use Rattle.swc_ast.specs.Tree as tree
-use Rattle.swc_ast.specs.Tree.{Text, Name, Tree, node, ε, ◌⊳◌}
+use Rattle.swc_ast.specs.Tree.{Text, Name, Tree, node, ε, ◌⊳◌, label_of}
 use Rattle.swc_ast.specs.Views.{expr_tree}
 use Rattle.swc_ast.specs.declared.Span.{Span}
 use Rattle.swc_ast.specs.declared.declarations.Decl.TheOpen as Open
@@ -15,7 +15,6 @@ use Rattle.swc_ast.specs.declared.expressions.MemberExpr.{MemberExpr}
 use Rattle.swc_ast.specs.declared.expressions.MemberProp.{MemberProp}
 use Rattle.swc_ast.specs.declared.expressions.MemberProp.TheVariants as prop
 use Rattle.swc_ast.proofs.ApartExpressions.{expr_form, ExprForm, expr_number, expr_at}
-use Rattle.swc_ast.proofs.Labels.{label}
 use Rattle.const_pass.specs.Rules.{name_read, text_read, key_text, member_of, value_at, constant, member, value}
 use Rattle.const_pass.specs.declared.rules.Constants.{Constants}
 
@@ -24,12 +23,12 @@ pub copied : (o : Option (Bor Expr)) (p : Option Expr) → option_copied o ≡ p
 copied None p e = ap (option_map expr_tree) e
 copied (Some v) p e = ap (option_map expr_tree) e
 
-form_of : (p : ExprForm) (e : Expr) → roll-Expr p ≡ e → expr_form (label (expr_tree e)) ≡ expr_number p
-form_of p e r = ap (λ x. expr_form (label (expr_tree x))) (sym r) ∙ expr_at p
+form_of : (p : ExprForm) (e : Expr) → roll-Expr p ≡ e → expr_form (label_of (expr_tree e)) ≡ expr_number p
+form_of p e r = ap (λ x. expr_form (label_of (expr_tree x))) (sym r) ∙ expr_at p
 
 -- neither a name nor a text nor a member
 
-no_name : (t : Tree) (n : ℕ) → expr_form (label t) ≡ n → (n == 14) ≡ false → None ≡ name_read t
+no_name : (t : Tree) (n : ℕ) → expr_form (label_of t) ≡ n → (n == 14) ≡ false → None ≡ name_read t
 no_name (node (tree.Read x) ss cs) n h k = absurd (true≢false (ap (λ m. m == 14) h ∙ k))
 no_name (node l ss cs) n h k = refl
 
@@ -40,7 +39,7 @@ other_name e g = by (out-Expr e) (roll-out-Expr e)
     by (Open.Ident n) r = absurd (g n (sym r ∙ in_expr.rolls-Ident n))
     by p r = no_name (expr_tree e) (expr_number p) (form_of p e r) refl
 
-no_text : (t : Tree) (n : ℕ) → expr_form (label t) ≡ n → (n == 15) ≡ false → None ≡ text_read t
+no_text : (t : Tree) (n : ℕ) → expr_form (label_of t) ≡ n → (n == 15) ≡ false → None ≡ text_read t
 no_text (node (tree.StrLit x) ss cs) n h k = absurd (true≢false (ap (λ m. m == 15) h ∙ k))
 no_text (node l ss cs) n h k = refl
 
@@ -52,7 +51,7 @@ other_text e g = by (out-Expr e) (roll-out-Expr e)
     by p r = no_text (expr_tree e) (expr_number p) (form_of p e r) refl
 
 module _ (c : Name → Option Tree) (m : Name → Text → Option Tree) where
-  no_value : (t : Tree) (n : ℕ) → expr_form (label t) ≡ n → (n == 9) ≡ false → (n == 14) ≡ false → None ≡ value_at c m t
+  no_value : (t : Tree) (n : ℕ) → expr_form (label_of t) ≡ n → (n == 9) ≡ false → (n == 14) ≡ false → None ≡ value_at c m t
   no_value (node (tree.Dot k) ss cs) n h j k' = absurd (true≢false (ap (λ m. m == 9) h ∙ j))
   no_value (node tree.Index ss cs) n h j k' = absurd (true≢false (ap (λ m. m == 9) h ∙ j))
   no_value (node (tree.Read x) ss cs) n h j k' = absurd (true≢false (ap (λ m. m == 14) h ∙ k'))

@@ -7,13 +7,13 @@ use Rattle.swc_pass.specs.Constants.{constant_at, constants}
 use Rattle.swc_pass.specs.Constants as given
 use Rattle.swc_pass.specs.Given.{Found, nothing, a_value, a_plain, Answers}
 use Rattle.swc_pass.specs.Inlined.{by_plain}
-use Rattle.swc_put.specs.declared.rules.Spot.{Spot}
+use Rattle.tree_put.specs.declared.rules.Spot.{Spot}
 use Rattle.given_shield.specs.Shield.{shield}
-use Rattle.swc_put.specs.Answers.{answer_of}
-use Rattle.swc_put.specs.Puts.{Answer}
-use Rattle.swc_put.specs.declared.rules.Put.{Put}
-use Rattle.swc_given.specs.Walk.{answer, put_answer}
-use Rattle.swc_given.specs.Worked.{Finished, finished, put_found, put_text, put_expression}
+use Rattle.tree_put.specs.Answers.{answer_of}
+use Rattle.tree_put.specs.Puts.{Answer}
+use Rattle.tree_put.specs.declared.rules.Put.{Put}
+use Rattle.given_rules.specs.Walk.{answer, put_answer}
+use Rattle.given_rules.specs.Worked.{Finished, finished, put_found, put_text, put_expression}
 use Rattle.const_pass.specs.Rules.{name_read, member_of, value_at, answers, constant, member, value, state}
 use Rattle.const_pass.specs.declared.rules.Constants.{Constants}
 

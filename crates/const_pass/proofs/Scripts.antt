@@ -5,25 +5,24 @@ use Rattle.swc_ast.specs.declared.Span.{Span}
 use Rattle.swc_ast.specs.declared.UnaryOp.TheVariants as op
 use Rattle.swc_ast.specs.Parts.{list_trees}
 use Rattle.swc_ast.specs.Tree as tree
-use Rattle.swc_ast.specs.Tree.{Text, Name, Label, Tree, node, Forest, ε, ◌⊳◌}
+use Rattle.swc_ast.specs.Tree.{Text, Name, Label, Tree, node, Forest, ε, ◌⊳◌, label_of, children_of}
 use Rattle.swc_ast.specs.Views.{expr_tree, stmt_tree}
 use Rattle.swc_ast.specs.declared.expressions.Expr.{Expr}
 use Rattle.swc_ast.specs.declared.modules.Script.{Script}
 use Rattle.swc_ast.specs.declared.statements.Stmt.{Stmt}
 use Rattle.swc_ast.specs.Modules.{script_tree}
-use Rattle.swc_put.specs.declared.rules.Spot.{Spot}
+use Rattle.tree_put.specs.declared.rules.Spot.{Spot}
 use Rattle.swc_pass.specs.Constants.{Constants, or_expression, in_items, in_item, constants}
 use Rattle.swc_pass.specs.Constants as given
 use Rattle.swc_pass.specs.Given.{SameGiven}
 use Rattle.given_shield.specs.Shield.{shield}
-use Rattle.swc_given.specs.Put.{here, callee, operand, Puts, or_parts, called, of_type, as_property, first_spot, around, put, put_all}
-use Rattle.swc_given.specs.Worked.{finished, puts, put_expression, put_found}
-use Rattle.swc_given.proofs.Instances.{constant_same}
-use Rattle.const_rules.specs.Views.{constants_of}
-use Rattle.const_rules.specs.declared.given.GivenModules.{GivenModules}
-use Rattle.const_rules.specs.Locals.{given_label}
-use Rattle.const_rules.proofs.Items.{no_import}
-use Rattle.swc_visit.specs.Nodes.{label_of, children_of}
+use Rattle.given_rules.specs.Put.{here, callee, operand, Puts, or_parts, called, of_type, as_property, first_spot, around, put, put_all}
+use Rattle.given_rules.specs.Worked.{finished, puts, put_expression, put_found}
+use Rattle.given_rules.proofs.Instances.{constant_same}
+use Rattle.const_imports.specs.Views.{constants_of}
+use Rattle.const_imports.specs.declared.given.GivenModules.{GivenModules}
+use Rattle.const_imports.specs.Locals.{given_label}
+use Rattle.const_imports.proofs.Items.{no_import}
 use Rattle.const_pass.proofs.Answered.{are_expressions}
 use Rattle.const_pass.proofs.Found.{put_value, same_answers}
 use Rattle.const_pass.specs.Rules.{name_read, text_read, member_of, value_at, answers}

@@ -4,19 +4,19 @@ use Rattle.swc_ast.specs.Tree.{Text, Tree, Forest}
 use Rattle.swc_ast.specs.Views.{expr_tree}
 use Rattle.swc_pass.specs.Constants.{constants}
 use Rattle.swc_pass.specs.Given.{Answers}
-use Rattle.swc_put.specs.Put as walk
-use Rattle.swc_put.specs.Still.{still}
-use Rattle.swc_put.specs.Walks.{Makes}
+use Rattle.tree_put.specs.Put as walk
+use Rattle.tree_put.specs.Still.{still}
+use Rattle.tree_put.specs.Walks.{Makes}
 use Rattle.given_shield.specs.Shield.{shield}
-use Rattle.swc_given.specs.Formed.{formed}
-use Rattle.swc_given.specs.Put.{here, put}
-use Rattle.swc_given.specs.Walk.{put_answer}
-use Rattle.swc_given.specs.Worked.{Finished, finished, puts}
-use Rattle.swc_given.proofs.ByWalk.{put_by_walk}
-use Rattle.swc_given.proofs.Instances.{constants_spanless}
-use Rattle.const_rules.specs.Locals.{locals}
-use Rattle.const_rules.specs.Views.{is_given, constants_of, of_text, group_of}
-use Rattle.const_rules.proofs.Constants.{table_constant, table_member}
+use Rattle.given_rules.specs.Formed.{formed}
+use Rattle.given_rules.specs.Put.{here, put}
+use Rattle.given_rules.specs.Walk.{put_answer}
+use Rattle.given_rules.specs.Worked.{Finished, finished, puts}
+use Rattle.given_rules.proofs.ByWalk.{put_by_walk}
+use Rattle.given_rules.proofs.Instances.{constants_spanless}
+use Rattle.const_imports.specs.Locals.{locals}
+use Rattle.const_imports.specs.Views.{is_given, constants_of, of_text, group_of}
+use Rattle.const_imports.proofs.Constants.{table_constant, table_member}
 use Rattle.const_pass.specs.Rules.{constant, member, answers, state}
 use Rattle.const_pass.specs.declared.rules.Constants as rust
 use Rattle.const_pass.proofs.Found.{same_answers}

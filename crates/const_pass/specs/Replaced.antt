@@ -8,13 +8,13 @@ use Rattle.swc_ast.specs.Views.{expr_tree}
 use Rattle.swc_ast.specs.declared.expressions.Expr.{Expr}
 use Rattle.swc_pass.specs.Constants.{Constants, items_of, unloaded, constants}
 use Rattle.swc_pass.specs.Given.{SameGiven}
-use Rattle.swc_given.specs.Givable.{AllGivable}
+use Rattle.given_rules.specs.Givable.{AllGivable}
 use Rattle.given_shield.specs.Shield.{shield}
-use Rattle.swc_given.specs.Put.{here, put}
-use Rattle.swc_given.specs.Worked.{finished, puts}
-use Rattle.const_rules.specs.Faults.{Fault, faults}
-use Rattle.const_rules.specs.Views.{constants_of}
-use Rattle.const_rules.specs.declared.given.GivenModules.{GivenModules}
+use Rattle.given_rules.specs.Put.{here, put}
+use Rattle.given_rules.specs.Worked.{finished, puts}
+use Rattle.const_imports.specs.Faults.{Fault, faults}
+use Rattle.const_imports.specs.Views.{constants_of}
+use Rattle.const_imports.specs.declared.given.GivenModules.{GivenModules}
 
 -- whether a module has an export
 abbrev pub has_export : Constants → Text → Text → Bool

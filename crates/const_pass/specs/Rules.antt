@@ -8,8 +8,8 @@ use Rattle.swc_ast.specs.declared.expressions.MemberProp.{MemberProp}
 use Rattle.swc_ast.specs.declared.expressions.MemberProp.TheVariants as prop
 use Rattle.swc_pass.specs.Given.{Answers}
 use Rattle.swc_pass.specs.Inlined.{by_plain}
-use Rattle.swc_given.specs.Worked.{Finished, finished}
-use Rattle.const_rules.specs.Views.{group_of, value_of, constant_in, member_in}
+use Rattle.given_rules.specs.Worked.{Finished, finished}
+use Rattle.const_imports.specs.Views.{group_of, value_of, constant_in, member_in}
 use Rattle.const_pass.specs.declared.rules.Constants.{Constants}
 
 -- the name that an expression reads, and the text that it is

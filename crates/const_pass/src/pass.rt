@@ -4,15 +4,15 @@ ghost use Rattle.swc_ast.specs.Modules.{module_tree, script_tree};
 ghost use Rattle.swc_ast.specs.Views.{expr_tree};
 ghost use Rattle.swc_ast.specs.declared.errors.PassError.TheVariants.{OutOfMemory};
 ghost use Rattle.swc_pass.specs.Pass.{TellsChange};
-ghost use Rattle.const_rules.specs.Views.{IsFirst};
+ghost use Rattle.const_imports.specs.Views.{IsFirst};
 ghost use Rattle.const_pass.specs.Replaced.{constants_in, faults_in, IsPut, Replaced, SameInScript};
 
 use crate::rules::Constants;
-use const_rules::{GivenModules, resolve_locals, unloaded};
+use const_imports::{GivenModules, resolve_locals, unloaded};
 use std::alloc::Global;
 use swc_ast::{Expr, Module, PassError, Script};
 use swc_pass::{Repeated, settle};
-use swc_put::put_module;
+use tree_put::put_module;
 
 /// A pass that replaces imports of given modules: reads of what they bind become the exports' values.
 #[derive(Drop)]

@@ -4,20 +4,20 @@ ghost use Rattle.swc_ast.specs.Expressions.{member_tree};
 ghost use Rattle.swc_ast.specs.Parts.{ident_name, lit_tree};
 ghost use Rattle.swc_ast.specs.Views.{expr_tree};
 ghost use Rattle.given_shield.specs.Shield.{shield};
-ghost use Rattle.swc_given.specs.Walk.{answer, put_answer};
-ghost use Rattle.swc_given.specs.Worked.{Finished};
+ghost use Rattle.given_rules.specs.Walk.{answer, put_answer};
+ghost use Rattle.given_rules.specs.Worked.{Finished};
 ghost use Rattle.swc_pass.specs.Given.{Answers};
-ghost use Rattle.swc_put.specs.Answers.{answer_of};
-ghost use Rattle.swc_put.specs.Still.{still};
+ghost use Rattle.tree_put.specs.Answers.{answer_of};
+ghost use Rattle.tree_put.specs.Still.{still};
 ghost use Rattle.const_pass.specs.Rules as rules;
 
-use const_rules::{GivenModules, Locals};
+use const_imports::{GivenModules, Locals};
 use given_shield::shielded;
 use std::alloc::{AllocError, Global};
 use swc_ast::{
     ExportNamedSpecifier, Expr, Ident, Lit, MemberExpr, MemberProp, VarDeclKind, VarDeclarator,
 };
-use swc_put::{Put, Puts, Scope, Spot};
+use tree_put::{Put, Puts, Scope, Spot};
 
 /// The rules of the walk: what names of given imports stand for.
 #[derive(Drop)]

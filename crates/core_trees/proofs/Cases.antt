@@ -4,10 +4,9 @@ use Rattle.std.proofs.lemmas.List.{append_assoc}
 use Rattle.std.specs.Prelude.{if◌then◌else◌}
 use Rattle.swc_ast.specs.declared.Span.{Span}
 use Rattle.swc_ast.specs.Tree as tree
-use Rattle.swc_ast.specs.Tree.{Name, Label, Tree, node, Forest, ε, ◌⊳◌}
+use Rattle.swc_ast.specs.Tree.{Name, Label, Tree, node, Forest, ε, ◌⊳◌, label_of}
 use Rattle.swc_ast.specs.Core.{fits, none_in}
 use Rattle.swc_ast.specs.Scope.{has_name, vars, vars_all, joined, body_statements, case_statements}
-use Rattle.swc_visit.specs.Nodes.{label_of}
 use Rattle.swc_resolved.specs.Scopes.{own_names}
 use Rattle.core_trees.specs.Inside.{with_names, undeclared, fits_inside, all_inside, is_switch, vars_apart, is_asked, some_fit, some_inside, Tells}
 use Rattle.core_trees.proofs.Inside.{undeclared_with, none_swapped, all_first, apart_by}

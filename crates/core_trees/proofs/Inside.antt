@@ -4,11 +4,10 @@ use Rattle.std.proofs.lemmas.Bool.{false≢true}
 use Rattle.std.proofs.lemmas.List.{append-nil}
 use Rattle.std.specs.Prelude.{◌↔◌, IsTrue, if◌then◌else◌, Some, None}
 use Rattle.swc_ast.specs.Tree as tree
-use Rattle.swc_ast.specs.Tree.{Name, Label, Tree, node, Forest, ε, ◌⊳◌}
+use Rattle.swc_ast.specs.Tree.{Name, Label, Tree, node, Forest, ε, ◌⊳◌, label_of, children_of}
 use Rattle.swc_ast.specs.Core.{numbers_fit, good_scope, fits, fits_all, none_in, IsCore}
 use Rattle.swc_ast.specs.Scope.{has_name, own_vars, holds_statements, vars, vars_all, case_statements}
 use Rattle.swc_ast.specs.Valid.{valid}
-use Rattle.swc_visit.specs.Nodes.{label_of, children_of}
 use Rattle.swc_resolved.specs.Here.{named_once, own_core}
 use Rattle.swc_resolved.specs.Scopes.{own_names}
 use Rattle.swc_resolved.proofs.Once.{none_turned}

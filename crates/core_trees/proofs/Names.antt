@@ -7,7 +7,7 @@ use Rattle.std.specs.List.{list_any}
 use mathlib.Core.Path.{fun_ext}
 use Rattle.swc_ast.specs.Tree.{Name, same_name}
 use Rattle.swc_ast.specs.Scope.{has_name}
-use Rattle.swc_static.proofs.Names.{same_name_path, same_name_itself, same_name_swap}
+use Rattle.static_proofs.proofs.Names.{same_name_path, same_name_itself, same_name_swap}
 use Rattle.swc_resolved.specs.Names.{name, names}
 use Rattle.swc_resolved.specs.declared.names.Name as key
 use Rattle.swc_resolved.proofs.Once.{nobody}

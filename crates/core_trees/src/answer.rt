@@ -8,7 +8,7 @@ ghost use Rattle.swc_ast.specs.Valid.{valid};
 use crate::walk::is_fit;
 use std::alloc::Global;
 use swc_ast::{Module, PassError, Script};
-use swc_visit::Node;
+use tree_visit::Node;
 
 /// Returns whether a valid module is core: its numbers are of at most 2^53 - 1 in size, and no scope
 /// declares a name twice but for `var`s and parameters. Fails if memory runs out.

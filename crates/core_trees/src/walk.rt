@@ -3,8 +3,8 @@
 ghost use Rattle.std.specs.Prelude.{◌≡◌, ◌&&◌, not, true, false, IfOk};
 ghost use Rattle.swc_ast.specs.Core.{fits, fits_all};
 ghost use Rattle.swc_ast.specs.Scope.{own_vars};
-ghost use Rattle.swc_visit.specs.Kinds.{kind_label};
-ghost use Rattle.swc_visit.specs.Nodes.{node_tree, children_forest};
+ghost use Rattle.tree_visit.specs.Kinds.{kind_label};
+ghost use Rattle.tree_visit.specs.Nodes.{node_tree, children_forest};
 ghost use Rattle.swc_resolved.specs.Names.{names as names_of};
 ghost use Rattle.swc_resolved.specs.Scopes.{own_names};
 ghost use Rattle.core_trees.specs.Inside.{declares, with_names, undeclared, fits_inside, all_inside, some_fit, some_inside as some_of_inside, vars_apart, opens_inner, is_switch as is_switch_label, is_asked as is_asked_label, Tells};
@@ -13,7 +13,7 @@ use crate::declared::Declared;
 use std::alloc::{AllocError, Global};
 use swc_ast::VarDeclKind;
 use swc_resolved::{Name, add_own_names, is_own_core};
-use swc_visit::{Children, Kind, Node};
+use tree_visit::{Children, Kind, Node};
 
 /// Whether a node opens a scope inside a function's body.
 #[inline(always)]
@@ -80,7 +80,7 @@ pub(crate) fn is_fit<'a>(n: Node<'a>, alloc: Global) -> Result<bool, AllocError>
 
 /// The same of each of some trees.
 #[cycle(walk)]
-#[tactic(auto, using(swc_visit::proofs::Caps::rest_falls))]
+#[tactic(auto, using(tree_visit::proofs::Caps::rest_falls))]
 fn are_fit<'a>(children: Children<'a>, alloc: Global) -> Result<bool, AllocError>
     ensures { IfOk result (λ b. b ≡ fits_all (children_forest children.entry)) }
 {
@@ -140,7 +140,7 @@ fn is_inside<'a>(n: Node<'a>, round: &mut Declared<'a>, alloc: Global) -> Result
 
 /// The same of each of some trees.
 #[cycle(walk)]
-#[tactic(auto, using(swc_visit::proofs::Caps::rest_falls))]
+#[tactic(auto, using(tree_visit::proofs::Caps::rest_falls))]
 fn are_inside<'a>(
     children: Children<'a>,
     round: &mut Declared<'a>,
@@ -160,7 +160,7 @@ fn are_inside<'a>(
 
 /// The same of the bodies of cases alone, or of all but those.
 #[cycle(walk)]
-#[tactic(auto, using(swc_visit::proofs::Caps::rest_falls))]
+#[tactic(auto, using(tree_visit::proofs::Caps::rest_falls))]
 fn some_inside<'a>(
     children: Children<'a>,
     bodies: bool,

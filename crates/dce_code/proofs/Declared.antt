@@ -17,8 +17,8 @@ use Rattle.swc_ast.specs.Tree as tree
 use Rattle.swc_ast.specs.Tree.{Name, VarDecl, Declarator, Empty, Tree, node, Forest, ε, ◌⊳◌}
 use Rattle.swc_ast.specs.Valid.{count}
 use Rattle.swc_ast.specs.Views.{expr_tree}
-use Rattle.swc_static.specs.Names.{is_some_tree}
-use Rattle.swc_kept.specs.Meant.{Sifts, sifted, stays_there, goes_there}
+use Rattle.static_proofs.specs.Names.{is_some_tree}
+use Rattle.walk_proofs.specs.Meant.{Sifts, sifted, stays_there, goes_there}
 use Rattle.dce_rules.specs.Left.{is_plain_value, any_of}
 use Rattle.dce_rules.specs.Shakes.{Shaker, Goes, Leaves, nothing_left, goes_with_value, goes_plainly, Shakes, declarators_go, declaration_goes, Rests}
 use Rattle.dce_code.specs.Lists.{Sifted}

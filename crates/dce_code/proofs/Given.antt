@@ -16,11 +16,11 @@ use Rattle.swc_ast.specs.Tree.{Body, Call, Fn, Key, KeyValue, Object, Params, Pl
 use Rattle.swc_ast.specs.Views.{expr_tree, function_trees, prop_or_spread_tree, stmt_tree}
 use Rattle.swc_ast.proofs.Equations.{function_trees-is}
 use Rattle.swc_ast.proofs.Places.{at_expr-Ident, at_expr-Object}
-use Rattle.swc_walk.proofs.NodeKinds.{alone_fits}
-use Rattle.swc_walk.specs.Parts.{stands_alone}
-use Rattle.swc_walk.specs.Walks.{Fits}
-use Rattle.swc_walk.specs.declared.rules.Place.{Place}
-use Rattle.swc_walk.specs.declared.rules.Place.TheVariants as place
+use Rattle.tree_walk.proofs.NodeKinds.{alone_fits}
+use Rattle.tree_walk.specs.Parts.{stands_alone}
+use Rattle.tree_walk.specs.Walks.{Fits}
+use Rattle.tree_walk.specs.declared.rules.Place.{Place}
+use Rattle.tree_walk.specs.declared.rules.Place.TheVariants as place
 use Rattle.dce_rules.specs.Shakes.{NamesOnly, no_property, key_and_name, Shaker, Shakes, call_gives}
 use Rattle.dce_code.specs.Objects.{Gives, gives, Returns, returned, ReturnsAlone}
 

@@ -9,14 +9,13 @@ use Rattle.swc_ast.specs.declared.expressions.AssignTarget.TheVariants as target
 use Rattle.swc_ast.specs.declared.names.Ident.{Ident}
 use Rattle.swc_ast.specs.Expressions.{assign_node, assign_tree}
 use Rattle.swc_ast.specs.Parts.{ident_name}
-use Rattle.swc_ast.specs.Tree.{Tree}
+use Rattle.swc_ast.specs.Tree.{Tree, label_of}
 use Rattle.swc_ast.specs.Views.{expr_tree}
 use Rattle.swc_ast.proofs.Places.{at_expr-Assign}
-use Rattle.swc_static.specs.Drawn.{is_expression}
-use Rattle.swc_static.specs.Names.{label_of}
+use Rattle.swc_ast.specs.Labels.{is_expression}
 use Rattle.swc_utils.specs.Pure.{pure}
 use Rattle.pass_rules.specs.Leaves.{guarded}
-use Rattle.pass_steps.proofs.ExprTrees.{is_an_expression}
+use Rattle.pass_proofs.proofs.ExprTrees.{is_an_expression}
 use Rattle.dce_rules.specs.Shakes.{Shaker, Opens, value, shielded}
 use Rattle.dce_code.specs.Assignments.{Unread, unread}
 

@@ -12,9 +12,9 @@ use Rattle.swc_ast.specs.Parts.{ident_name, list_trees, optional_trees}
 use Rattle.swc_ast.specs.Statements.{declarator_tree}
 use Rattle.swc_ast.specs.Tree.{Name, VarDecl, Declarator, Empty, Tree, node, Forest, ε, ◌⊳◌}
 use Rattle.swc_ast.specs.Views.{expr_tree}
-use Rattle.swc_static.specs.Names.{is_some_tree}
+use Rattle.static_proofs.specs.Names.{is_some_tree}
 use Rattle.swc_utils.specs.Pure.{pure}
-use Rattle.swc_kept.specs.Meant.{Sifts}
+use Rattle.walk_proofs.specs.Meant.{Sifts}
 use Rattle.dce_rules.specs.Shakes.{Shaker, Early, goes_early, Opens, declarators_open, declaration_opens}
 use Rattle.dce_code.specs.Lists.{Sifted}
 use Rattle.dce_code.proofs.Declared.{some_counted, some_before, not_true}

@@ -2,7 +2,7 @@
 use Rattle.std.proofs.Common.{◌≡◌, Bool, true, false, refl, sym, ap, ◌∙◌}
 use Rattle.std.proofs.lemmas.Bool.{false≢true}
 use Rattle.swc_ast.specs.Views.{expr_tree, stmt_tree}
-use Rattle.swc_ast.specs.Tree.{Label, VarDecl, Import, Tree, Forest}
+use Rattle.swc_ast.specs.Tree.{Label, VarDecl, Import, Tree, Forest, label_of, children_of}
 use Rattle.swc_ast.specs.declared.declarations.Decl.{Decl}
 use Rattle.swc_ast.specs.declared.declarations.Decl.TheOpen as Open
 use Rattle.swc_ast.specs.declared.declarations.Function.{Function}
@@ -21,13 +21,12 @@ use Rattle.swc_ast.specs.declared.statements.Stmt.{Stmt}
 use Rattle.swc_ast.specs.declared.statements.Stmt.TheVariants as in_stmt
 use Rattle.swc_ast.proofs.Equations.{stmt_tree-Block, stmt_tree-Empty, stmt_tree-Return, stmt_tree-Labeled, stmt_tree-Break, stmt_tree-Continue, stmt_tree-If, stmt_tree-Switch, stmt_tree-Throw, stmt_tree-Try, stmt_tree-While, stmt_tree-DoWhile, stmt_tree-For, stmt_tree-Expr, if_tree-is, switch_tree-is, for_tree-is}
 use Rattle.swc_ast.specs.declared.declarations.Decl.TheViews.{roll-Stmt, out-Stmt, roll-out-Stmt}
-use Rattle.swc_static.specs.Drawn.{is_expression}
-use Rattle.swc_static.specs.Names.{label_of, trees_of}
-use Rattle.pass_steps.proofs.ExprTrees.{is_an_expression}
+use Rattle.swc_ast.specs.Labels.{is_expression}
+use Rattle.pass_proofs.proofs.ExprTrees.{is_an_expression}
 use Rattle.dce_rules.specs.Shakes.{Shaker, node_rests, Rests}
 
 abbrev own : Shaker → Tree → Bool
-own S t = node_rests S (label_of t) (trees_of t)
+own S t = node_rests S (label_of t) (children_of t)
 
 -- a statement that is no declaration
 pub other_rests : (S : Shaker) (s : Stmt) → ((n : Decl) → s ≡ in_stmt.Decl n → ⊥) → Rests S (stmt_tree s)
@@ -57,4 +56,4 @@ no_rule S _ cs h = refl
 
 -- an expression is neither a declaration nor an import
 pub expr_rests : (S : Shaker) (e : Expr) → Rests S (expr_tree e)
-expr_rests S e = no_rule S (label_of (expr_tree e)) (trees_of (expr_tree e)) (is_an_expression e)
+expr_rests S e = no_rule S (label_of (expr_tree e)) (children_of (expr_tree e)) (is_an_expression e)

@@ -2,11 +2,11 @@
 use Rattle.std.proofs.Common.{◌≡◌, true, List, [], ◌∷◌, refl, sym, subst}
 use Rattle.swc_ast.specs.declared.Span.{Span}
 use Rattle.swc_ast.specs.Tree.{Tree}
-use Rattle.swc_walk.proofs.NodeKinds.{alone_fits}
-use Rattle.swc_walk.specs.Parts.{stands_alone}
-use Rattle.swc_walk.specs.Walks.{Fits}
-use Rattle.swc_walk.specs.declared.rules.Place.{Place}
-use Rattle.swc_walk.specs.declared.rules.Place.TheVariants as place
+use Rattle.tree_walk.proofs.NodeKinds.{alone_fits}
+use Rattle.tree_walk.specs.Parts.{stands_alone}
+use Rattle.tree_walk.specs.Walks.{Fits}
+use Rattle.tree_walk.specs.declared.rules.Place.{Place}
+use Rattle.tree_walk.specs.declared.rules.Place.TheVariants as place
 use Rattle.pass_rules.specs.Leaves.{guarded}
 
 guard_alone : (p : Place) (rs zs : List Span) (t : Tree) → stands_alone p (guarded rs zs t) ≡ true

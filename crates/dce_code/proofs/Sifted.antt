@@ -5,11 +5,11 @@ use Rattle.std.specs.Cmp.{unsigned_Decides}
 use Rattle.swc_ast.specs.Tree.{Tree, node, Forest, ε, ◌⊳◌}
 use Rattle.swc_ast.specs.Parts.{list_trees}
 use Rattle.swc_ast.specs.Valid.{count}
-use Rattle.swc_kept.specs.Meant.{Sifts, sifted, stays_there, goes_there}
+use Rattle.walk_proofs.specs.Meant.{Sifts, sifted, stays_there, goes_there}
 use Rattle.swc_ast.specs.Tree.{Block, Import, Text}
 use Rattle.swc_ast.specs.declared.Span.{Span}
-use Rattle.swc_static.specs.Names.{is_some_tree}
-use Rattle.swc_walk.specs.Walks.{Became}
+use Rattle.static_proofs.specs.Names.{is_some_tree}
+use Rattle.tree_walk.specs.Walks.{Became}
 use Rattle.dce_rules.specs.Shakes.{Shaker, goes_plainly, item_goes, some_go, some_item_goes, import_goes, items_go, specifiers_go, shake_pass}
 use Rattle.dce_code.specs.Lists.{any_goes, Sifted, ListShaken}
 

@@ -16,7 +16,7 @@ use Rattle.swc_ast.specs.declared.expressions.SeqExpr.{SeqExpr}
 use Rattle.swc_ast.specs.declared.statements.Stmt.{Stmt}
 use Rattle.swc_ast.proofs.Equations.{expr_tree-Seq}
 use Rattle.swc_ast.specs.Valid.{count}
-use Rattle.swc_static.specs.Names.{is_some_tree}
+use Rattle.static_proofs.specs.Names.{is_some_tree}
 use Rattle.swc_ast.specs.Parts.{ident_name, list_trees, optional_trees}
 use Rattle.swc_ast.specs.Scope.{joined}
 use Rattle.swc_ast.specs.Statements.{declarator_tree, var_tree}

@@ -4,7 +4,7 @@ use Rattle.swc_ast.specs.Modules.{item_tree}
 use Rattle.swc_ast.specs.Parts.{list_trees}
 use Rattle.swc_ast.specs.Tree.{Tree, Forest, ε, ◌⊳◌}
 use Rattle.swc_ast.specs.declared.modules.ModuleItem.{ModuleItem}
-use Rattle.swc_kept.specs.Meant.{Sifts}
+use Rattle.walk_proofs.specs.Meant.{Sifts}
 use Rattle.dce_rules.specs.Shakes.{Shaker, Drops, some_item_goes}
 
 -- the trees of what stands for items of a module

@@ -4,7 +4,7 @@ ghost use Rattle.swc_ast.specs.Expressions.{assign_tree};
 ghost use Rattle.swc_ast.specs.Views.{expr_tree};
 ghost use Rattle.swc_ast.specs.declared.Span.{Span};
 ghost use Rattle.swc_ast.specs.declared.expressions.Expr.{size-Expr};
-ghost use Rattle.swc_walk.specs.Walks.{Fits, Opened};
+ghost use Rattle.tree_walk.specs.Walks.{Fits, Opened};
 ghost use Rattle.pass_rules.specs.Leaves.{guarded};
 ghost use Rattle.swc_utils.specs.Pure.{pure};
 ghost use Rattle.dce_rules.specs.Shakes.{Opens, shake_pass};
@@ -17,7 +17,7 @@ use pass_places::shield;
 use std::alloc::{AllocError, Global};
 use swc_ast::{AssignExpr, AssignOp, AssignTarget, Expr};
 use swc_utils::ExprExt;
-use swc_walk::{Place, fits};
+use tree_walk::{Place, fits};
 
 impl<'a> Known<'a> {
     /// Whether an assignment is a plain one to a name that nothing reads.
@@ -67,7 +67,7 @@ impl<'a> Known<'a> {
     /// Puts the value of an assignment that goes in the assignment's place: of a plain one to a name that nothing reads, of a
     /// pure value. Where the value would mean something else by itself, `(0, value)` stands
     /// there. False: the expression is as it was. Fails where memory is refused.
-    #[tactic(auto, using(swc_walk::proofs::NodeKinds::alone_fits))]
+    #[tactic(auto, using(tree_walk::proofs::NodeKinds::alone_fits))]
     pub fn open_expr(&self, alloc: Global, place: Place, e: &mut Expr) -> Result<bool, AllocError>
         ensures opens { IfOk result (λ changed. Opened (shake_pass (shaker self.now)) changed (expr_tree e.old) (expr_tree e.new)) }
         ensures fits { IfOk result (λ changed. Fits place (expr_tree e.old) → Fits place (expr_tree e.new)) }

@@ -6,7 +6,7 @@ ghost use Rattle.swc_ast.specs.declared.VarDeclKind.TheVariants.{Var as Vars};
 ghost use Rattle.swc_ast.specs.declared.declarations.Decl.{size-Decl};
 ghost use Rattle.swc_ast.specs.declared.declarations.Decl.TheVariants.{Var};
 ghost use Rattle.swc_ast.specs.declared.statements.Stmt.{size-Stmt};
-ghost use Rattle.swc_walk.specs.Walks.{Opened};
+ghost use Rattle.tree_walk.specs.Walks.{Opened};
 ghost use Rattle.dce_rules.specs.Shakes.{goes_early as tree_goes, shake_pass};
 ghost use Rattle.dce_code.specs.Knowledge.{shaker};
 ghost use Rattle.dce_code.specs.Left.{EarlyLeft};

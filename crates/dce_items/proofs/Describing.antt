@@ -3,15 +3,15 @@ use Rattle.std.proofs.Common.{ℕ, ◌≡◌, ◌⊎◌, inl, inr, Bool, true, f
 use Rattle.std.proofs.lemmas.List.{append-nil}
 use Rattle.swc_ast.specs.Run.{has_text}
 use Rattle.swc_ast.specs.Scope.{has_name}
-use Rattle.swc_ast.specs.Tree.{Text, Name, Label, Module, Tree, node, Forest, ε, ◌⊳◌}
-use Rattle.swc_visit.specs.Kinds.{kind_label}
-use Rattle.swc_visit.specs.Nodes.{label_of, children_of, children_forest}
+use Rattle.swc_ast.specs.Tree.{Text, Name, Label, Module, Tree, node, Forest, ε, ◌⊳◌, label_of, children_of}
+use Rattle.tree_visit.specs.Kinds.{kind_label}
+use Rattle.tree_visit.specs.Nodes.{children_forest}
 use Rattle.dce_uses.specs.Tables.{Tells, is_free}
 use Rattle.dce_peel.specs.declared.item.Item.{Item}
 use Rattle.dce_peel.specs.Rounds.{among}
-use Rattle.dce_layers.specs.Goers.{own_mention, mentions, mentions_among, goes_with, inner_goers}
-use Rattle.dce_layers.specs.Layers.{notes}
-use Rattle.dce_layers.proofs.Mentioned.{noted_stands}
+use Rattle.dce_layer_proofs.specs.Goers.{own_mention, mentions, mentions_among, goes_with, inner_goers}
+use Rattle.dce_layer_proofs.specs.Layers.{notes}
+use Rattle.dce_layer_proofs.proofs.Mentioned.{noted_stands}
 use Rattle.dce_items.specs.declared.known.Known.{Known}
 use Rattle.dce_items.specs.declared.parts.Parts.{Parts}
 use Rattle.dce_items.specs.Described.{IsNumber, IsAmong, GoesBy, Describes, AllDescribed}

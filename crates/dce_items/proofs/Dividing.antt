@@ -6,15 +6,15 @@ use Rattle.swc_ast.specs.declared.Span.{Span}
 use Rattle.swc_ast.specs.declared.VarDeclKind.{VarDeclKind}
 use Rattle.swc_ast.specs.declared.names.Ident.{Ident}
 use Rattle.swc_ast.specs.Parts.{ident_name}
-use Rattle.swc_ast.specs.Tree.{Name, Label, VarDecl, Declarator, FnDecl, Tree, node, Forest, ε, ◌⊳◌}
-use Rattle.swc_static.specs.Names.{is_some_tree}
+use Rattle.swc_ast.specs.Tree.{Name, Label, VarDecl, Declarator, FnDecl, Tree, node, Forest, ε, ◌⊳◌, label_of, children_of}
+use Rattle.static_proofs.specs.Names.{is_some_tree}
 use Rattle.swc_utils.specs.Pure.{pure}
-use Rattle.swc_visit.specs.declared.kind.Kind.{Kind}
-use Rattle.swc_visit.specs.declared.kind.Kind.TheVariants as kind
-use Rattle.swc_visit.specs.declared.opened.Opened.{Opened}
-use Rattle.swc_visit.specs.Kinds.{kind_label}
-use Rattle.swc_visit.specs.Nodes.{label_of, children_of, children_forest}
-use Rattle.dce_layers.specs.Goers.{goers_among, is_pure_init, goes_with, inner_goers}
+use Rattle.tree_visit.specs.declared.kind.Kind.{Kind}
+use Rattle.tree_visit.specs.declared.kind.Kind.TheVariants as kind
+use Rattle.tree_visit.specs.declared.opened.Opened.{Opened}
+use Rattle.tree_visit.specs.Kinds.{kind_label}
+use Rattle.tree_visit.specs.Nodes.{children_forest}
+use Rattle.dce_layer_proofs.specs.Goers.{goers_among, is_pure_init, goes_with, inner_goers}
 use Rattle.dce_items.specs.declared.parts.Parts.{Parts}
 use Rattle.dce_items.specs.Gathered.{tight_inside, goers_inside, name_of, Divides, DividesAt}
 

@@ -4,12 +4,11 @@ use Rattle.std.proofs.lemmas.Bool.{false≢true, or_cases, and_from}
 use Rattle.swc_ast.specs.Reach.{is_for}
 use Rattle.swc_ast.specs.Run.{has_text}
 use Rattle.swc_ast.specs.Scope.{has_name, default_name}
-use Rattle.swc_ast.specs.Tree.{Name, Label, same_name, Tree, node, Forest, ε, ◌⊳◌}
+use Rattle.swc_ast.specs.Tree.{Name, Label, same_name, Tree, node, Forest, ε, ◌⊳◌, label_of, children_of}
 use Rattle.swc_ast.specs.Weight.{is_list}
-use Rattle.swc_static.proofs.Names.{same_name_path, has_name_append}
-use Rattle.swc_visit.specs.Nodes.{label_of, children_of}
+use Rattle.static_proofs.proofs.Names.{same_name_path, has_name_append}
 use Rattle.dce_peel.specs.Rounds.{among}
-use Rattle.dce_layers.specs.Goers.{own_goer, is_closed_label, is_head_label, goers_among, is_sound, tight_among}
+use Rattle.dce_layer_proofs.specs.Goers.{own_goer, is_closed_label, is_head_label, goers_among, is_sound, tight_among}
 use Rattle.dce_uses.specs.Tables.{is_free}
 use Rattle.dce_items.specs.Described.{IsNumber}
 use Rattle.dce_items.proofs.Among.{more_grows, last_among}

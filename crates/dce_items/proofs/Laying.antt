@@ -4,13 +4,12 @@ use Rattle.std.proofs.lemmas.Bool.{false≢true, ltb-true, ltb-false, eqb-true}
 use Rattle.std.proofs.lemmas.Option.{none-some}
 use Rattle.swc_ast.specs.Parts.{list_trees}
 use Rattle.swc_ast.specs.Run.{has_text}
-use Rattle.swc_ast.specs.Tree.{Text, Name, Tree, Forest, ε, ◌⊳◌}
-use Rattle.swc_static.specs.Names.{label_of, trees_of}
+use Rattle.swc_ast.specs.Tree.{Text, Name, Tree, Forest, ε, ◌⊳◌, label_of, children_of}
 use Rattle.dce_peel.specs.declared.item.Item.{Item}
 use Rattle.dce_peel.specs.Rounds as rounds
 use Rattle.dce_peel.specs.Rounds.{among, Fits, Each, AreLayers, staying}
-use Rattle.dce_layers.specs.Goers.{goes_with}
-use Rattle.dce_layers.specs.Layers.{Layers, items, live, notes, top, Stays, Leaves, Waits, Placed, AllPlaced, has_layer}
+use Rattle.dce_layer_proofs.specs.Goers.{goes_with}
+use Rattle.dce_layer_proofs.specs.Layers.{Layers, items, live, notes, top, Stays, Leaves, Waits, Placed, AllPlaced, has_layer}
 use Rattle.dce_items.specs.Described.{IsNumber, IsAmong, GoesBy, Describes, AllDescribed, layered, IsLayered}
 
 -- each item has a layer
@@ -62,8 +61,8 @@ module _ (mark : ℕ) (retained : List Text) (names : List Name) (all : Layers) 
     solid = d.solid;
     some = fit.some;
     goers = λ x h. stays ends r t i x (λ k. inr (inl k)) (λ k. own x t r 0 k (le x)) fit (d.goers x h);
-    goes = λ h. leaves r (goes_with mark (label_of t) (trees_of t)) i.name d.name (fit.goes h);
-    waits = λ s h. waits ends r s (goes_with mark (label_of t) (trees_of t)) i.name h d.name fit.waits;
+    goes = λ h. leaves r (goes_with mark (label_of t) (children_of t)) i.name d.name (fit.goes h);
+    waits = λ s h. waits ends r s (goes_with mark (label_of t) (children_of t)) i.name h d.name fit.waits;
   }
 
   -- and so do all
@@ -117,7 +116,7 @@ retold a b same mark names (t ⊳ ts) (i ∷ is) h = (
   record {
     tight = h.0.tight;
     solid = h.0.solid;
-    name = gone_by a b same names (goes_with mark (label_of t) (trees_of t)) i.name h.0.name;
+    name = gone_by a b same names (goes_with mark (label_of t) (children_of t)) i.name h.0.name;
     goers = λ x g. by x (h.0.goers x g);
     notes = h.0.notes;
   },

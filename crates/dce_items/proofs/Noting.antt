@@ -4,12 +4,11 @@ use Rattle.std.proofs.lemmas.Bool.{false≢true, or_left, or_right, eqb-true}
 use Rattle.std.proofs.lemmas.List.Quantifiers.{position-Some}
 use Rattle.std.proofs.lemmas.Option.{slice_get-get_or}
 use Rattle.swc_ast.specs.Scope.{has_name}
-use Rattle.swc_ast.specs.Tree.{Name, Label, same_name, Tree, node, Forest, ε, ◌⊳◌}
-use Rattle.swc_static.proofs.Names.{same_name_path}
-use Rattle.swc_visit.specs.Nodes.{label_of, children_of}
+use Rattle.swc_ast.specs.Tree.{Name, Label, same_name, Tree, node, Forest, ε, ◌⊳◌, label_of, children_of}
+use Rattle.static_proofs.proofs.Names.{same_name_path}
 use Rattle.dce_uses.specs.Tables.{is_free}
 use Rattle.dce_peel.specs.Rounds.{among}
-use Rattle.dce_layers.specs.Goers.{own_mention, mentions, mentions_among}
+use Rattle.dce_layer_proofs.specs.Goers.{own_mention, mentions, mentions_among}
 use Rattle.dce_items.proofs.Among.{among_more}
 use Rattle.dce_items.specs.declared.known.Known.{Known}
 use Rattle.dce_items.specs.Gathered.{is_at, keeps_number}

@@ -2,12 +2,11 @@
 use Rattle.std.specs.Prelude.{ℕ, ◌≡◌, ◌⊎◌, true, false, List, [], ◌∷◌, Option, Some, None, position}
 use Rattle.swc_ast.specs.Run.{has_text}
 use Rattle.swc_ast.specs.Scope.{has_name, default_name}
-use Rattle.swc_ast.specs.Tree.{Text, Name, same_name, Tree, Forest, ε, ◌⊳◌}
-use Rattle.swc_static.specs.Names.{label_of, trees_of}
+use Rattle.swc_ast.specs.Tree.{Text, Name, same_name, Tree, Forest, ε, ◌⊳◌, label_of, children_of}
 use Rattle.dce_peel.specs.declared.item.Item.{Item}
 use Rattle.dce_peel.specs.Rounds.{among}
-use Rattle.dce_layers.specs.Goers.{goes_with, inner_goers, is_void_item, tight}
-use Rattle.dce_layers.specs.Layers.{Layers, items, notes, AllPlaced, has_layer}
+use Rattle.dce_layer_proofs.specs.Goers.{goes_with, inner_goers, is_void_item, tight}
+use Rattle.dce_layer_proofs.specs.Layers.{Layers, items, notes, AllPlaced, has_layer}
 
 -- A name has a number. That of a default export without a name has none.
 pub record IsNumber (names : List Name) (x : Name) (n : ℕ) : Type 0 where
@@ -29,8 +28,8 @@ GoesBy retained names None None = Unit {0}
 pub record Describes (mark : ℕ) (retained : List Text) (names : List Name) (t : Tree) (i : Item) : Type 0 where
   pub tight : tight t ≡ true
   pub solid : is_void_item t ≡ false
-  pub name : GoesBy retained names (goes_with mark (label_of t) (trees_of t)) i.name
-  pub goers : (x : Name) → has_name x (inner_goers mark (label_of t) (trees_of t)) ≡ true → (notes x t ≡ true) ⊎ ((has_text x.text retained ≡ true) ⊎ IsAmong names i.goers.items x)
+  pub name : GoesBy retained names (goes_with mark (label_of t) (children_of t)) i.name
+  pub goers : (x : Name) → has_name x (inner_goers mark (label_of t) (children_of t)) ≡ true → (notes x t ≡ true) ⊎ ((has_text x.text retained ≡ true) ⊎ IsAmong names i.goers.items x)
   pub notes : (x : Name) (n : ℕ) → IsNumber names x n → among i.notes.items n ≡ notes x t
 
 -- The same of each item of a list.

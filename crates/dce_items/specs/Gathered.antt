@@ -10,13 +10,13 @@ use Rattle.swc_ast.specs.Reach.{is_for}
 use Rattle.swc_ast.specs.Scope.{has_name}
 use Rattle.swc_ast.specs.Tree.{Name, same_name, Label, VarDecl, node, Forest, ε, ◌⊳◌}
 use Rattle.swc_ast.specs.Weight.{is_list}
-use Rattle.swc_static.specs.Names.{is_some_tree}
-use Rattle.swc_visit.specs.declared.opened.Opened.{Opened}
-use Rattle.swc_visit.specs.Kinds.{kind_label}
-use Rattle.swc_visit.specs.Nodes.{children_forest}
+use Rattle.static_proofs.specs.Names.{is_some_tree}
+use Rattle.tree_visit.specs.declared.opened.Opened.{Opened}
+use Rattle.tree_visit.specs.Kinds.{kind_label}
+use Rattle.tree_visit.specs.Nodes.{children_forest}
 use Rattle.dce_uses.specs.Tables.{is_free}
 use Rattle.dce_peel.specs.Rounds.{among}
-use Rattle.dce_layers.specs.Goers.{own_goer, is_closed_label, is_head_label, goers_among, goes_with, inner_goers, is_void_label, is_sound, tight_among}
+use Rattle.dce_layer_proofs.specs.Goers.{own_goer, is_closed_label, is_head_label, goers_among, goes_with, inner_goers, is_void_label, is_sound, tight_among}
 use Rattle.dce_items.specs.declared.known.Known.{Known}
 use Rattle.dce_items.specs.declared.parts.Parts.{Parts}
 use Rattle.dce_items.specs.Described.{IsAmong}

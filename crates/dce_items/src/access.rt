@@ -4,7 +4,7 @@ use dce_uses::{declared_name, is_read, named};
 use std::alloc::{AllocError, Global};
 use swc_ast::Ident;
 use swc_names::Names;
-use swc_visit::{Children, Kind, Opened};
+use tree_visit::{Children, Kind, Opened};
 
 /// Adds the number of a name, if there is one.
 fn add(names: &Names, name: Option<&Ident>, numbers: &mut Vec<usize>) -> Result<(), AllocError> {
@@ -30,7 +30,7 @@ fn add_own(names: &Names, kind: Kind<'_>, access: &mut Access) -> Result<(), All
 
 /// The same for all nodes among children and below them.
 #[cycle(add_all)]
-#[tactic(auto, using(swc_visit::proofs::Caps::rest_falls, crate::proofs::Sizes::inner_falls, crate::proofs::Sizes::rest_within))]
+#[tactic(auto, using(tree_visit::proofs::Caps::rest_falls, crate::proofs::Sizes::inner_falls, crate::proofs::Sizes::rest_within))]
 fn add_all(names: &Names, children: Children<'_>, access: &mut Access) -> Result<(), AllocError> {
     let mut left = children;
     while let Some((child, rest)) = left.next() {
@@ -55,7 +55,7 @@ fn access_of(alloc: Global, names: &Names, opened: Opened<'_>) -> Result<Access,
 }
 
 /// How each item of a list reads, writes and declares names. Fails where memory is refused.
-#[tactic(auto, using(swc_visit::proofs::Caps::rest_falls))]
+#[tactic(auto, using(tree_visit::proofs::Caps::rest_falls))]
 pub(crate) fn accesses_of(
     alloc: Global,
     names: &Names,

@@ -2,7 +2,7 @@
 ghost use Rattle.std.specs.Prelude.{◌≡◌, IfOk, IfErr, IfSome};
 ghost use Rattle.swc_ast.specs.declared.errors.PassError.TheVariants.{OutOfMemory};
 ghost use Rattle.swc_utils.specs.Globals.{unresolved};
-ghost use Rattle.swc_visit.specs.Nodes.{node_tree, children_forest};
+ghost use Rattle.tree_visit.specs.Nodes.{node_tree, children_forest};
 ghost use Rattle.dce_items.specs.Described.{AllDescribed, Describes};
 
 use crate::kinds::{is_asm, is_void};
@@ -14,7 +14,7 @@ use std::alloc::Global;
 use swc_ast::PassError;
 use swc_names::Names;
 use swc_utils::ExprCtx;
-use swc_visit::{Children, Node};
+use tree_visit::{Children, Node};
 
 /// An item by numbers of names. Nothing where something else than a name goes in it in any case, and where it is `'use asm'`.
 fn describe(
@@ -56,7 +56,7 @@ fn describe(
 }
 
 /// Items by numbers of names. Nothing where something else than a name goes in one in any case.
-#[tactic(auto, using(swc_visit::proofs::Caps::rest_falls, crate::proofs::Describing::begins, crate::proofs::Describing::goes_on, crate::proofs::Describing::done))]
+#[tactic(auto, using(tree_visit::proofs::Caps::rest_falls, crate::proofs::Describing::begins, crate::proofs::Describing::goes_on, crate::proofs::Describing::done))]
 pub(crate) fn describe_all(
     alloc: Global,
     names: &Names,

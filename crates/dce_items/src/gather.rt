@@ -1,14 +1,14 @@
 //! The walk that finds names that are declared in an item.
 ghost use Rattle.std.specs.Prelude.{◌≡◌, IfOk};
-ghost use Rattle.swc_visit.specs.Kinds.{kind_label};
-ghost use Rattle.swc_visit.specs.Nodes.{children_forest};
-ghost use Rattle.dce_layers.specs.Goers.{goers_among, tight_among};
+ghost use Rattle.tree_visit.specs.Kinds.{kind_label};
+ghost use Rattle.tree_visit.specs.Nodes.{children_forest};
+ghost use Rattle.dce_layer_proofs.specs.Goers.{goers_among, tight_among};
 ghost use Rattle.dce_items.specs.Gathered.{Gathers, goers_child, goers_inside, tight_child, tight_inside};
 
 use crate::kinds::{goes_anyway, is_closed, is_for, is_head, is_list, is_sound, own_goer};
 use crate::known::Known;
 use std::alloc::AllocError;
-use swc_visit::{Children, Opened};
+use tree_visit::{Children, Opened};
 
 impl<'a, 'b> Known<'a, 'b> {
     /// Adds the names that are declared below a node, where they are entered. False where something in its lists goes in any
@@ -62,7 +62,7 @@ impl<'a, 'b> Known<'a, 'b> {
 
     /// The same for children, the first of which may be the head of a `for`.
     #[cycle(gather)]
-    #[tactic(auto, using(swc_visit::proofs::Caps::rest_falls, crate::proofs::Sizes::inner_falls, crate::proofs::Sizes::rest_within, crate::proofs::Gathering::begins, crate::proofs::Gathering::goes_on, crate::proofs::Gathering::ends_at, crate::proofs::Gathering::done))]
+    #[tactic(auto, using(tree_visit::proofs::Caps::rest_falls, crate::proofs::Sizes::inner_falls, crate::proofs::Sizes::rest_within, crate::proofs::Gathering::begins, crate::proofs::Gathering::goes_on, crate::proofs::Gathering::ends_at, crate::proofs::Gathering::done))]
     fn gather(
         &self,
         children: Children<'_>,

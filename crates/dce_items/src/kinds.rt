@@ -1,19 +1,20 @@
 //! What a node is to the tree shaker.
 ghost use Rattle.std.specs.Prelude.{◌≡◌, true, not, ◌&&◌, [], IsTrue};
+ghost use Rattle.swc_ast.specs.Labels.{is_declaration};
 ghost use Rattle.swc_ast.specs.Redex as redex;
 ghost use Rattle.swc_ast.specs.Tree.{Unary, node};
-ghost use Rattle.swc_static.specs.Names.{is_some_tree};
+ghost use Rattle.static_proofs.specs.Names.{is_some_tree};
 ghost use Rattle.swc_ast.specs.Reach as reach;
 ghost use Rattle.swc_ast.specs.Weight.{is_list as is_list_label};
-ghost use Rattle.swc_visit.specs.Kinds.{kind_label};
-ghost use Rattle.swc_visit.specs.Nodes.{children_forest};
-ghost use Rattle.swc_walk.specs.Pass as pass;
+ghost use Rattle.tree_visit.specs.Kinds.{kind_label};
+ghost use Rattle.tree_visit.specs.Nodes.{children_forest};
+ghost use Rattle.tree_walk.specs.Pass as pass;
 ghost use Rattle.swc_names.specs.Ids.{optional};
-ghost use Rattle.dce_layers.specs.Goers as goers;
+ghost use Rattle.dce_layer_proofs.specs.Goers as goers;
 ghost use Rattle.dce_items.specs.Gathered as gathered;
 
 use swc_ast::{Ident, UnaryOp};
-use swc_visit::{Children, Kind, Opened};
+use tree_visit::{Children, Kind, Opened};
 
 /// The name that a node declares, where the node may go with it.
 pub(crate) fn own_goer<'a>(kind: Kind<'a>) -> Option<&'a Ident>
@@ -132,7 +133,7 @@ fn are_specifiers(children: Children<'_>) -> bool
 
 /// Whether a node is a declaration of variables or of a function.
 fn is_declaration(kind: Kind<'_>) -> bool
-    ensures { result ≡ pass.is_declaration (kind_label kind.entry) }
+    ensures { result ≡ is_declaration (kind_label kind.entry) }
 {
     match kind {
         Kind::VarDecl(_) | Kind::FnDecl(_) => true,

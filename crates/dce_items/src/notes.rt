@@ -1,15 +1,15 @@
 //! The walk that finds names that an item keeps.
 ghost use Rattle.std.specs.Prelude.{◌≡◌, ◌||◌, ◌++◌, ℕ, OnOk};
-ghost use Rattle.swc_visit.specs.Kinds.{kind_label};
-ghost use Rattle.swc_visit.specs.Nodes.{children_forest};
+ghost use Rattle.tree_visit.specs.Kinds.{kind_label};
+ghost use Rattle.tree_visit.specs.Nodes.{children_forest};
 ghost use Rattle.dce_peel.specs.Rounds.{among};
-ghost use Rattle.dce_layers.specs.Goers.{mentions_among, own_mention};
+ghost use Rattle.dce_layer_proofs.specs.Goers.{mentions_among, own_mention};
 ghost use Rattle.dce_items.specs.Gathered.{keeps_number};
 
 use crate::known::Known;
 use dce_uses::{declared_name, named};
 use std::alloc::AllocError;
-use swc_visit::{Children, Kind, Opened};
+use tree_visit::{Children, Kind, Opened};
 
 impl<'a, 'b> Known<'a, 'b> {
     /// Adds the numbers of the names that stand in a node and that the item keeps.
@@ -23,7 +23,7 @@ impl<'a, 'b> Known<'a, 'b> {
 
     /// The same for all nodes among children and below them.
     #[cycle(note_all)]
-    #[tactic(auto, using(swc_visit::proofs::Caps::rest_falls, crate::proofs::Sizes::inner_falls, crate::proofs::Sizes::rest_within, crate::proofs::Noting::begins, crate::proofs::Noting::goes_on, crate::proofs::Noting::done))]
+    #[tactic(auto, using(tree_visit::proofs::Caps::rest_falls, crate::proofs::Sizes::inner_falls, crate::proofs::Sizes::rest_within, crate::proofs::Noting::begins, crate::proofs::Noting::goes_on, crate::proofs::Noting::done))]
     fn note_all(&self, children: Children<'_>, notes: &mut Vec<usize>) -> Result<(), AllocError>
         ensures { OnOk result ((n : ℕ) → among notes.new.items n ≡ (among notes.old.items n || keeps_number self.now (mentions_among (children_forest children.entry)) n)) }
     {

@@ -1,15 +1,15 @@
 //! The name with which an item goes, and the rest of the item.
 ghost use Rattle.std.specs.Prelude.{◌≡◌, IfSome, Some, None};
 ghost use Rattle.swc_utils.specs.Globals.{unresolved};
-ghost use Rattle.swc_visit.specs.Kinds.{kind_label};
-ghost use Rattle.swc_visit.specs.Nodes.{children_forest};
-ghost use Rattle.dce_layers.specs.Goers.{is_pure_init};
+ghost use Rattle.tree_visit.specs.Kinds.{kind_label};
+ghost use Rattle.tree_visit.specs.Nodes.{children_forest};
+ghost use Rattle.dce_layer_proofs.specs.Goers.{is_pure_init};
 ghost use Rattle.dce_items.specs.Gathered.{Divides, DividesAt};
 
 use crate::kinds::is_empty;
 use swc_ast::Ident;
 use swc_utils::{ExprCtx, ExprExt};
-use swc_visit::{Children, Kind, Node, Opened};
+use tree_visit::{Children, Kind, Node, Opened};
 
 /// The name with which an item goes, if there is one, and the node below which other names are declared in the item.
 #[derive(Clone, Copy)]

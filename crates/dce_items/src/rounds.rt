@@ -14,7 +14,7 @@ use std::alloc::Global;
 use swc_ast::{Module, PassError};
 use swc_names::Names;
 use swc_utils::ExprCtx;
-use swc_visit::Node;
+use tree_visit::Node;
 
 /// In which rounds of the tree shaker the items of a module go, where names of the top level go too and the texts of some stay:
 /// as many rounds as are known beforehand, `most` at most, in which nothing but functions and variables of the module's list

@@ -5,13 +5,13 @@ use Rattle.swc_ast.specs.declared.Span.{Span}
 use Rattle.swc_ast.specs.declared.AssignOp.TheVariants.{Assign as Plain}
 use Rattle.swc_ast.specs.declared.VarDeclKind.{VarDeclKind}
 use Rattle.swc_ast.specs.Reach.{is_closed}
-use Rattle.swc_ast.specs.Tree.{Name, Text, Key, Label, Read, Assign, Call, Fn, Params, Body, Return, Object, Shorthand, KeyValue, PlainKey, Empty, Block, ExprStmt, Seq, For, VarDecl, Declarator, FnDecl, Import, Tree, node, Forest, ε, ◌⊳◌}
+use Rattle.swc_ast.specs.Tree.{Name, Text, Key, Label, Read, Assign, Call, Fn, Params, Body, Return, Object, Shorthand, KeyValue, PlainKey, Empty, Block, ExprStmt, Seq, For, VarDecl, Declarator, FnDecl, Import, Tree, node, Forest, ε, ◌⊳◌, label_of, children_of}
 use Rattle.swc_ast.specs.Valid.{count}
 use Rattle.swc_utils.specs.Pure.{pure}
-use Rattle.swc_static.specs.Drawn.{is_expression}
-use Rattle.swc_static.specs.Names.{label_of, trees_of, is_some_tree}
-use Rattle.swc_walk.specs.Pass.{Pass}
-use Rattle.swc_kept.specs.Meant.{Sifts}
+use Rattle.swc_ast.specs.Labels.{is_expression}
+use Rattle.static_proofs.specs.Names.{is_some_tree}
+use Rattle.tree_walk.specs.Pass.{Pass}
+use Rattle.walk_proofs.specs.Meant.{Sifts}
 use Rattle.pass_rules.specs.Leaves.{guarded}
 use Rattle.dce_rules.specs.Left.{any_of, declared_plainly}
 
@@ -116,7 +116,7 @@ node_rests S (Import src) cs = import_goes S cs || not (some_go S cs)
 node_rests S _ cs = true
 
 abbrev pub Rests : Shaker → Tree → Type 0
-Rests S t = node_rests S (label_of t) (trees_of t) ≡ true
+Rests S t = node_rests S (label_of t) (children_of t) ≡ true
 
 -- lists
 

@@ -2,7 +2,7 @@
 use Rattle.std.proofs.Common.{◌≡◌, Bool, true, false, ◌||◌, ◌&&◌, List, [], ◌++◌, refl, sym, ap, ◌∙◌}
 use Rattle.swc_ast.specs.Tree.{Name}
 use Rattle.swc_ast.specs.Scope.{has_name}
-use Rattle.swc_static.proofs.Names.{has_name_append}
+use Rattle.static_proofs.proofs.Names.{has_name_append}
 use Rattle.dce_uses.specs.declared.tally.Fact.{Fact}
 use Rattle.dce_uses.specs.declared.table.Table.{Table}
 use Rattle.dce_uses.specs.Tables.{Notes, IsNumbered, fact_of}

@@ -2,11 +2,10 @@
 use Rattle.std.proofs.Common.{◌≡◌, ◌+◌, ◌*◌, ◌<◌, ◌≤◌, Bool, true, false, ◌||◌, ◌&&◌, List, [], ◌++◌, refl, sym, ap, ap₂, ◌∙◌, arith}
 use Rattle.std.specs.Prelude.{if◌then◌else◌}
 use Rattle.std.proofs.lemmas.Bool.{and_parts}
-use Rattle.swc_ast.specs.Tree.{Name, Label, Tree, node, Forest, ε, ◌⊳◌}
+use Rattle.swc_ast.specs.Tree.{Name, Label, Tree, node, Forest, ε, ◌⊳◌, label_of, children_of}
 use Rattle.swc_ast.specs.Scope.{has_name, param_name, param_names}
 use Rattle.swc_ast.specs.Resolved.{params_of}
-use Rattle.swc_visit.specs.Nodes.{label_of, children_of}
-use Rattle.swc_visit.proofs.Caps.{tree_size, forest_size, opened_smaller}
+use Rattle.tree_visit.proofs.Caps.{tree_size, forest_size, opened_smaller}
 use Rattle.dce_rules.specs.Uses.{has_arguments, any_arguments, declared_by_node, declared_among}
 use Rattle.dce_uses.specs.declared.place.Place.{Place}
 use Rattle.dce_uses.specs.declared.tally.Fact.{Fact}

@@ -9,7 +9,7 @@ use Rattle.std.proofs.lemmas.List.Quantifiers.{position-Some}
 use Rattle.std.proofs.lemmas.Option.{same_Some, cond_some, slice_get-get_or, slice_get_read, slice_get_past}
 use Rattle.swc_ast.specs.Tree.{Name, same_name}
 use Rattle.swc_ast.specs.Scope.{has_name}
-use Rattle.swc_static.proofs.Names.{same_name_path, same_name_itself}
+use Rattle.static_proofs.proofs.Names.{same_name_path, same_name_itself}
 use Rattle.swc_names.specs.Names.{with_name}
 use Rattle.dce_uses.specs.declared.tally.Fact.{Fact}
 use Rattle.dce_uses.specs.declared.tally.Tally.{Tally}

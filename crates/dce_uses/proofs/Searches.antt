@@ -1,11 +1,10 @@
 -- A function's parameters, looked for among its children.
 use Rattle.std.proofs.Common.{◌≡◌, ℕ, ◌<◌, ◌≤◌, true, false, refl, sym, ap, ◌∙◌, arith}
 use Rattle.std.specs.Prelude.{if◌then◌else◌}
-use Rattle.swc_ast.specs.Tree.{Label, Params, Tree, node, Forest, ε, ◌⊳◌}
+use Rattle.swc_ast.specs.Tree.{Label, Params, Tree, node, Forest, ε, ◌⊳◌, label_of, children_of}
 use Rattle.swc_ast.specs.Resolved.{params_of}
-use Rattle.swc_visit.specs.Nodes.{label_of, children_of}
-use Rattle.swc_visit.proofs.Caps.{forest_size, opened_smaller}
-use Rattle.dce_uses.specs.Noted.{is_params}
+use Rattle.swc_ast.specs.Labels.{is_params}
+use Rattle.tree_visit.proofs.Caps.{forest_size, opened_smaller}
 
 -- how large what is left is
 

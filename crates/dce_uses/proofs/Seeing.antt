@@ -1,9 +1,8 @@
 -- What is seen in nodes and in trees in a row.
 use Rattle.std.proofs.Common.{◌≡◌, false, ◌||◌, sym, ap, ap₂, ◌∙◌}
 use Rattle.std.specs.Prelude.{if◌then◌else◌}
-use Rattle.swc_ast.specs.Tree.{Label, Tree, node, Forest, ε, ◌⊳◌}
+use Rattle.swc_ast.specs.Tree.{Label, Tree, node, Forest, ε, ◌⊳◌, label_of, children_of}
 use Rattle.swc_ast.specs.Reach.{named_by}
-use Rattle.swc_visit.specs.Nodes.{label_of, children_of}
 use Rattle.dce_rules.specs.Uses.{has_arguments, is_arguments, names_arguments, any_arguments, is_eval, calls_eval, any_eval}
 use Rattle.dce_uses.specs.declared.seen.Seen.{Seen}
 use Rattle.dce_uses.specs.Sights.{Sees, SeesAmong, IsWith}

@@ -11,7 +11,7 @@ use Rattle.swc_ast.specs.Reach.{named_by, declares, named_outside, outside_in}
 use Rattle.dce_rules.specs.Uses.{target_read, read_by, read_in, read_among, declared_by_node, declared_in, declared_among, is_eval, calls_eval, any_eval, is_argument, argument_among, seen_by_eval, eval_among}
 use Rattle.dce_uses.specs.declared.place.Place.{Place}
 use Rattle.dce_uses.specs.declared.tally.Fact.TheVariants as fact
-use Rattle.dce_uses.specs.Noted.{function_name, is_plain, reads, writes, is_own_argument, below, noted, noted_among}
+use Rattle.dce_uses.specs.Noted.{function_name, is_plain_assignment, reads, writes, is_own_argument, below, noted, noted_among}
 use Rattle.dce_uses.proofs.Adding.{or_false, or_true, or_swap, and_false}
 
 -- truth values
@@ -28,7 +28,7 @@ or_again false = refl
 
 -- reads and declarations
 
-target_read_as : (x y : Name) (op : AssignOp) → (not (is_plain op) && (same_name x y || false)) ≡ has_name x (target_read op y)
+target_read_as : (x y : Name) (op : AssignOp) → (not (is_plain_assignment op) && (same_name x y || false)) ≡ has_name x (target_read op y)
 target_read_as x y Plain = refl
 target_read_as x y op = refl
 
@@ -65,7 +65,7 @@ target_named true c = or_again c
 target_named false c = refl
 
 named_split : (x : Name) (l : Label) → has_name x (named_by l) ≡ ((reads l && has_name x (named_by l)) || (writes l && has_name x (named_by l)))
-named_split x (tree.Assign op y) = target_named (not (is_plain op)) (same_name x y || false)
+named_split x (tree.Assign op y) = target_named (not (is_plain_assignment op)) (same_name x y || false)
 named_split x (tree.Update op prefix y) = or_again (same_name x y || false)
 named_split x l = sym (or_false (has_name x (named_by l)))
 

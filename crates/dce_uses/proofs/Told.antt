@@ -2,12 +2,11 @@
 use Rattle.std.proofs.Common.{◌≡◌, Bool, true, false, not, ◌||◌, ◌&&◌, List, [], ◌∷◌, ◌++◌, Some, None, refl, sym, ap, ap₂, ◌∙◌}
 use Rattle.swc_ast.specs.Tree as tree
 use Rattle.swc_ast.specs.declared.Span.{Span}
-use Rattle.swc_ast.specs.Tree.{Text, Name, Label, same_name, Tree, node, Forest, ε, ◌⊳◌}
+use Rattle.swc_ast.specs.Tree.{Text, Name, Label, same_name, Tree, node, Forest, ε, ◌⊳◌, label_of, children_of}
 use Rattle.swc_ast.specs.Scope.{has_name, default_name, declarator_name, declarator_names}
 use Rattle.swc_ast.specs.Run.{own_texts, specifier_exports, item_exports, exported}
 use Rattle.swc_ast.specs.Reach.{is_exported}
-use Rattle.swc_static.proofs.Names.{has_name_append}
-use Rattle.swc_visit.specs.Nodes.{label_of, children_of}
+use Rattle.static_proofs.proofs.Names.{has_name_append}
 use Rattle.dce_rules.specs.Uses.{is_argument, seen_by_eval, is_export_of, is_used_unnamed}
 use Rattle.dce_uses.specs.declared.listed.Part.TheVariants as part
 use Rattle.dce_uses.specs.declared.tally.Fact.{Fact}
@@ -16,7 +15,7 @@ use Rattle.dce_uses.specs.declared.table.Table.{Table}
 use Rattle.dce_uses.specs.declared.uses.Uses.{Uses}
 use Rattle.dce_uses.specs.Noted.{is_hiding, noted, at_top}
 use Rattle.dce_uses.specs.Listed.{listed}
-use Rattle.dce_uses.specs.Exports.{first_names, item_names, exported_names, is_nameless, any_nameless}
+use Rattle.dce_uses.specs.Exports.{first_names, item_names, exported_names, is_nameless_export, any_nameless}
 use Rattle.dce_uses.specs.Tables.{IsBlank, Notes, Tells, fact_of, is_default, is_hidden}
 use Rattle.dce_uses.proofs.Adding.{next, or_false, or_true, or_grouped, or_swap, and_false}
 use Rattle.dce_uses.proofs.Counting.{alone}
@@ -47,7 +46,7 @@ first_exported x (node (tree.VarDecl kind) ss ds ⊳ ts) = own_exported x (decla
 first_exported x (node (tree.FnDecl f) ss cs ⊳ ts) = refl
 first_exported x (node l ss cs ⊳ ts) = refl
 
-item_exported : (x : Name) (l : Label) (cs : Forest) → is_exported x (item_exports l cs) ≡ (has_name x (item_names l cs) || (is_nameless l && same_name x default_name))
+item_exported : (x : Name) (l : Label) (cs : Forest) → is_exported x (item_exports l cs) ≡ (has_name x (item_names l cs) || (is_nameless_export l && same_name x default_name))
 item_exported x tree.ExportDecl cs = first_exported x cs ∙ sym (or_false (has_name x (first_names cs)))
 item_exported x tree.ExportNamed cs = specifiers_exported x cs ∙ sym (or_false (has_name x (listed part.Specifiers cs)))
 item_exported x (tree.ExportDefaultFn None) cs = or_false (same_name x default_name)
@@ -66,8 +65,8 @@ pub exported_as : (x : Name) (ts : Forest) → is_exported x (exported ts) ≡ (
 exported_as x ε = refl
 exported_as x (node l ss cs ⊳ ts) =
     exported_append x (item_exports l cs) (exported ts) ∙ ap₂ (λ a b. a || b) (item_exported x l cs) (exported_as x ts)
-    ∙ spread (has_name x (item_names l cs)) (is_nameless l) (has_name x (exported_names ts)) (any_nameless ts) (same_name x default_name)
-    ∙ ap (λ b. b || ((is_nameless l || any_nameless ts) && same_name x default_name)) (sym (has_name_append x (item_names l cs) (exported_names ts)))
+    ∙ spread (has_name x (item_names l cs)) (is_nameless_export l) (has_name x (exported_names ts)) (any_nameless ts) (same_name x default_name)
+    ∙ ap (λ b. b || ((is_nameless_export l || any_nameless ts) && same_name x default_name)) (sym (has_name_append x (item_names l cs) (exported_names ts)))
 
 -- a table tells what a tree says
 
@@ -112,7 +111,7 @@ in_module fact.Declared x t = or_false _ ∙ or_false _
 in_module fact.Held x t = or_false _ ∙ or_false _
 in_module fact.Hidden x t = or_false _ ∙ or_false _
 
-pub item_told : (u : Uses) (start counted : Table) (t : Tree) → IsBlank start → Notes start counted (λ f x. noted f x at_top t) → Notes counted u.table (alone is_hiding (item_names (label_of t) (children_of t))) → u.exports_default ≡ is_nameless (label_of t) → Tells u (node tree.Module [] (t ⊳ ε))
+pub item_told : (u : Uses) (start counted : Table) (t : Tree) → IsBlank start → Notes start counted (λ f x. noted f x at_top t) → Notes counted u.table (alone is_hiding (item_names (label_of t) (children_of t))) → u.exports_default ≡ is_nameless_export (label_of t) → Tells u (node tree.Module [] (t ⊳ ε))
 item_told u start counted (node l ss cs) blank counts exports unnamed =
     let t = node l ss cs in
     tells u (node tree.Module [] (t ⊳ ε)) (λ x. has_name x (item_names l cs))

@@ -1,9 +1,9 @@
 -- What nodes export, by what they are and what they are not.
 use Rattle.std.proofs.Common.{◌≡◌, [], refl, sym, ap, ◌∙◌}
 use Rattle.swc_ast.specs.Tree.{Forest}
-use Rattle.swc_visit.specs.Kinds.{kind_label}
-use Rattle.swc_visit.specs.declared.kind.Kind.{Kind}
-use Rattle.swc_visit.specs.declared.kind.Kind.TheVariants as kind
+use Rattle.tree_visit.specs.Kinds.{kind_label}
+use Rattle.tree_visit.specs.declared.kind.Kind.{Kind}
+use Rattle.tree_visit.specs.declared.kind.Kind.TheVariants as kind
 use Rattle.dce_uses.specs.Noted.{function_name}
 use Rattle.dce_uses.specs.Exports.{declaration_names, item_names}
 

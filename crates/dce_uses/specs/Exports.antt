@@ -29,12 +29,12 @@ exported_names ε = []
 exported_names (node l ss cs ⊳ ts) = item_names l cs ++ exported_names ts
 
 -- a default export without a name
-abbrev pub is_nameless : Label → Bool
-is_nameless (ExportDefaultFn None) = true
-is_nameless ExportDefaultExpr = true
-is_nameless _ = false
+abbrev pub is_nameless_export : Label → Bool
+is_nameless_export (ExportDefaultFn None) = true
+is_nameless_export ExportDefaultExpr = true
+is_nameless_export _ = false
 
 -- whether items have one
 abbrev pub any_nameless : Forest → Bool
 any_nameless ε = false
-any_nameless (node l ss cs ⊳ ts) = is_nameless l || any_nameless ts
+any_nameless (node l ss cs ⊳ ts) = is_nameless_export l || any_nameless ts

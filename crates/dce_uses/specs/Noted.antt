@@ -19,17 +19,17 @@ function_name (ExportDefaultFn o) = option_name o
 function_name _ = []
 
 -- the declaration of a function, that of a default export aside
-abbrev pub is_declaration : Label → Bool
-is_declaration (FnDecl x) = true
-is_declaration _ = false
+abbrev pub is_function_declaration : Label → Bool
+is_function_declaration (FnDecl x) = true
+is_function_declaration _ = false
 
-abbrev pub is_plain : AssignOp → Bool
-is_plain Plain = true
-is_plain op = false
+abbrev pub is_plain_assignment : AssignOp → Bool
+is_plain_assignment Plain = true
+is_plain_assignment op = false
 
 -- whether a node that names something reads it: all but plain assignments
 abbrev pub reads : Label → Bool
-reads (Assign op x) = not (is_plain op)
+reads (Assign op x) = not (is_plain_assignment op)
 reads _ = true
 
 -- whether a node that names something writes it: by an assignment or an update
@@ -38,14 +38,10 @@ writes (Assign op x) = true
 writes (Update op prefix x) = true
 writes _ = false
 
-abbrev pub is_params : Label → Bool
-is_params Params = true
-is_params _ = false
-
 -- a block, or a function, whose body is one
-abbrev pub is_block : Label → Bool
-is_block Block = true
-is_block l = is_function l
+abbrev pub is_block_or_function : Label → Bool
+is_block_or_function Block = true
+is_block_or_function l = is_function l
 
 -- whether a declaration stands below the top level: functions and `var` in a function, others in a block
 abbrev pub lets_go : Place → Label → Bool
@@ -55,7 +51,7 @@ lets_go p l = p.in_block
 
 -- the place of a node's children
 abbrev pub below : Place → Label → Place
-below p l = record { in_function = has_arguments l || p.in_function; in_block = is_block l || p.in_block; in_declaration = is_declaration l || p.in_declaration; is_inside = is_function l || p.is_inside }
+below p l = record { in_function = has_arguments l || p.in_function; in_block = is_block_or_function l || p.in_block; in_declaration = is_function_declaration l || p.in_declaration; is_inside = is_function l || p.is_inside }
 
 -- the place of a whole module
 abbrev pub at_top : Place

@@ -1,7 +1,7 @@
 //! The walk that counts.
 ghost use Rattle.std.specs.Prelude.{◌≡◌, ◌&&◌, OnOk, IfOk};
-ghost use Rattle.swc_visit.specs.Kinds.{kind_label};
-ghost use Rattle.swc_visit.specs.Nodes.{node_tree, children_forest};
+ghost use Rattle.tree_visit.specs.Kinds.{kind_label};
+ghost use Rattle.tree_visit.specs.Nodes.{node_tree, children_forest};
 ghost use Rattle.swc_names.specs.Ids.{optional};
 ghost use Rattle.dce_rules.specs.Uses.{declared_among};
 ghost use Rattle.dce_uses.specs.Noted as noted;
@@ -20,7 +20,7 @@ use crate::table::Table;
 use crate::tally::Tally;
 use std::alloc::AllocError;
 use swc_ast::Ident;
-use swc_visit::{Children, Kind, Node};
+use tree_visit::{Children, Kind, Node};
 
 /// What a node says of the name that it reads or writes.
 fn naming(kind: Kind<'_>, place: Place) -> Tally

@@ -1,8 +1,8 @@
 //! The names that a module exports.
 ghost use Rattle.std.specs.Prelude.{◌≡◌, ◌&&◌, OnOk};
 ghost use Rattle.swc_ast.specs.Scope.{has_name};
-ghost use Rattle.swc_visit.specs.Kinds.{kind_label};
-ghost use Rattle.swc_visit.specs.Nodes.{children_forest};
+ghost use Rattle.tree_visit.specs.Kinds.{kind_label};
+ghost use Rattle.tree_visit.specs.Nodes.{children_forest};
 ghost use Rattle.dce_uses.specs.Exports as exports;
 ghost use Rattle.dce_uses.specs.Noted.{is_hiding};
 ghost use Rattle.dce_uses.specs.Tables.{Notes};
@@ -11,11 +11,11 @@ use crate::labels::function_name;
 use crate::listed::Part;
 use crate::table::Table;
 use std::alloc::AllocError;
-use swc_visit::{Children, Kind};
+use tree_visit::{Children, Kind};
 
 /// Whether a node is a default export without a name.
 pub(crate) fn is_nameless(kind: Kind<'_>) -> bool
-    ensures { result ≡ exports.is_nameless (kind_label kind.entry) }
+    ensures { result ≡ exports.is_nameless_export (kind_label kind.entry) }
 {
     match kind {
         Kind::ExportDefaultFn(name) => match name {
@@ -28,7 +28,7 @@ pub(crate) fn is_nameless(kind: Kind<'_>) -> bool
 }
 
 /// Whether a default export among items has no name.
-#[tactic(auto, using(swc_visit::proofs::Caps::rest_falls, crate::proofs::Lists::nameless_here, crate::proofs::Lists::nameless_behind, crate::proofs::Lists::nameless_ends))]
+#[tactic(auto, using(tree_visit::proofs::Caps::rest_falls, crate::proofs::Lists::nameless_here, crate::proofs::Lists::nameless_behind, crate::proofs::Lists::nameless_ends))]
 pub(crate) fn any_nameless(items: Children<'_>) -> bool
     ensures { result ≡ exports.any_nameless (children_forest items.entry) }
 {

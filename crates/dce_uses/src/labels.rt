@@ -1,17 +1,18 @@
 //! What a node says of names.
 ghost use Rattle.std.specs.Prelude.{◌≡◌};
+ghost use Rattle.swc_ast.specs.Labels.{is_params};
 ghost use Rattle.swc_ast.specs.Reach.{named_by};
 ghost use Rattle.swc_ast.specs.Scope.{is_function as is_function_label};
-ghost use Rattle.swc_visit.specs.Kinds.{kind_label};
+ghost use Rattle.tree_visit.specs.Kinds.{kind_label};
 ghost use Rattle.swc_names.specs.Ids.{optional};
 ghost use Rattle.dce_rules.specs.Uses as uses;
 ghost use Rattle.dce_uses.specs.Noted as noted;
 
 use swc_ast::{AssignOp, Ident};
-use swc_visit::Kind;
+use tree_visit::Kind;
 
 fn is_plain(op: AssignOp) -> bool
-    ensures { result ≡ noted.is_plain op }
+    ensures { result ≡ noted.is_plain_assignment op }
 {
     match op {
         AssignOp::Assign => true,
@@ -110,7 +111,7 @@ pub(crate) fn has_arguments(kind: Kind<'_>) -> bool
 
 /// Whether a node is the declaration of a function.
 pub(crate) fn is_declaration(kind: Kind<'_>) -> bool
-    ensures { result ≡ noted.is_declaration (kind_label kind.entry) }
+    ensures { result ≡ noted.is_function_declaration (kind_label kind.entry) }
 {
     match kind {
         Kind::FnDecl(_) => true,
@@ -140,7 +141,7 @@ pub(crate) fn is_arguments(kind: Kind<'_>) -> bool
 
 /// Whether a node is a block or the body of a function.
 pub(crate) fn is_block(kind: Kind<'_>) -> bool
-    ensures { result ≡ noted.is_block (kind_label kind.entry) }
+    ensures { result ≡ noted.is_block_or_function (kind_label kind.entry) }
 {
     match kind {
         Kind::Block => true,
@@ -150,7 +151,7 @@ pub(crate) fn is_block(kind: Kind<'_>) -> bool
 
 /// Whether a node holds the parameters of a function.
 pub(crate) fn is_params(kind: Kind<'_>) -> bool
-    ensures { result ≡ noted.is_params (kind_label kind.entry) }
+    ensures { result ≡ is_params (kind_label kind.entry) }
 {
     match kind {
         Kind::Params => true,

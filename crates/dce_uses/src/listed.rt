@@ -1,8 +1,8 @@
 //! Names that stand in a list: parameters, declarators and specifiers.
 ghost use Rattle.std.specs.Prelude.{◌≡◌, ◌&&◌, OnOk};
 ghost use Rattle.swc_ast.specs.Scope.{has_name};
-ghost use Rattle.swc_visit.specs.Kinds.{kind_label};
-ghost use Rattle.swc_visit.specs.Nodes.{children_forest};
+ghost use Rattle.tree_visit.specs.Kinds.{kind_label};
+ghost use Rattle.tree_visit.specs.Nodes.{children_forest};
 ghost use Rattle.swc_names.specs.Ids.{optional};
 ghost use Rattle.dce_uses.specs.Listed.{listed, listed_name};
 ghost use Rattle.dce_uses.specs.Noted.{is_hiding};
@@ -11,7 +11,7 @@ ghost use Rattle.dce_uses.specs.Tables.{Notes};
 use crate::table::Table;
 use std::alloc::AllocError;
 use swc_ast::Ident;
-use swc_visit::{Children, Kind};
+use tree_visit::{Children, Kind};
 
 /// What of a list has names.
 #[derive(Clone, Copy)]

@@ -1,11 +1,11 @@
 //! Where a node stands.
 ghost use Rattle.std.specs.Prelude.{◌≡◌};
-ghost use Rattle.swc_visit.specs.Kinds.{kind_label};
+ghost use Rattle.tree_visit.specs.Kinds.{kind_label};
 ghost use Rattle.dce_uses.specs.Noted as noted;
 
 use crate::labels::{has_arguments, is_block, is_declaration, is_function};
 use swc_ast::VarDeclKind;
-use swc_visit::Kind;
+use tree_visit::Kind;
 
 /// Where a node stands.
 #[derive(Clone, Copy)]

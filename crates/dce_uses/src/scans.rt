@@ -1,13 +1,13 @@
 //! The parameters of a function.
 ghost use Rattle.std.specs.Prelude.{◌≡◌};
 ghost use Rattle.swc_ast.specs.Resolved as resolved;
-ghost use Rattle.swc_visit.specs.Nodes.{children_forest};
+ghost use Rattle.tree_visit.specs.Nodes.{children_forest};
 
 use crate::labels::is_params;
-use swc_visit::Children;
+use tree_visit::Children;
 
 /// The parameters among a function's children.
-#[tactic(auto, using(swc_visit::proofs::Caps::rest_falls, crate::proofs::Searches::params_here, crate::proofs::Searches::params_behind, crate::proofs::Searches::no_params))]
+#[tactic(auto, using(tree_visit::proofs::Caps::rest_falls, crate::proofs::Searches::params_here, crate::proofs::Searches::params_behind, crate::proofs::Searches::no_params))]
 pub(crate) fn params_of<'a>(children: Children<'a>) -> Children<'a>
     ensures { children_forest result ≡ resolved.params_of (children_forest children.entry) }
 {

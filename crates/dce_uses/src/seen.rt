@@ -1,10 +1,10 @@
 //! Whether trees call `eval` and name `arguments`.
 ghost use Rattle.std.specs.Prelude.{◌≡◌, ◌||◌, false};
-ghost use Rattle.swc_visit.specs.Kinds.{kind_label};
+ghost use Rattle.tree_visit.specs.Kinds.{kind_label};
 ghost use Rattle.dce_uses.specs.Sights as sights;
 
 use crate::labels::{has_arguments, is_arguments, is_eval};
-use swc_visit::Kind;
+use tree_visit::Kind;
 
 /// What is seen in trees, beside what they say of each name.
 #[derive(Clone, Copy)]

@@ -6,7 +6,7 @@ ghost use Rattle.swc_ast.specs.Scope.{default_name};
 ghost use Rattle.swc_ast.specs.Tree as trees;
 ghost use Rattle.swc_ast.specs.Tree.{same_name, node, ε, ◌⊳◌};
 ghost use Rattle.swc_ast.specs.declared.errors.PassError.TheVariants.{OutOfMemory};
-ghost use Rattle.swc_visit.specs.Nodes.{node_tree};
+ghost use Rattle.tree_visit.specs.Nodes.{node_tree};
 ghost use Rattle.dce_uses.specs.Tables as tables;
 
 use crate::exports::{any_nameless, is_nameless};
@@ -15,7 +15,7 @@ use crate::table::Table;
 use crate::tally::Fact;
 use std::alloc::Global;
 use swc_ast::{Ident, Module, PassError, Script, SyntaxContext};
-use swc_visit::Node;
+use tree_visit::Node;
 
 /// How the names of a module or a script are used, in all its places.
 #[derive(Drop)]

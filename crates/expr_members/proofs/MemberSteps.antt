@@ -19,7 +19,7 @@ use Rattle.swc_ast.specs.declared.expressions.Expr.{Expr}
 use Rattle.swc_ast.specs.declared.expressions.MemberProp.{MemberProp}
 use Rattle.swc_ast.specs.declared.expressions.MemberProp.TheVariants as prop
 use Rattle.swc_utils.specs.Pure.{has_spread, pure_all}
-use Rattle.swc_keys.specs.Keys.{are_keys, keys_of}
+use Rattle.tree_keys.specs.Keys.{are_keys, keys_of}
 use Rattle.expr_rules.specs.ExprSteps.{ExprStep, MemberOf, by_dot, by_key, text_length, text_character, array_length, array_item, object_value}
 use Rattle.pass_rules.specs.Leaves.{key_text_of, void_tree}
 use Rattle.expr_rules.specs.Members.{all_basic, array_at, character, text_at, value_named}

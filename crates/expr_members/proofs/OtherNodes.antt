@@ -1,13 +1,12 @@
 -- What the tree of an expression is not, where the expression is of another variant.
 use Rattle.std.proofs.Common.{◌≡◌, ℕ, false, ◌==◌, refl, sym, ap, ◌∙◌}
 use Rattle.swc_ast.specs.Tree as tree
-use Rattle.swc_ast.specs.Tree.{Tree, node}
+use Rattle.swc_ast.specs.Tree.{Tree, node, label_of}
 use Rattle.swc_ast.specs.Redex.{is_text}
 use Rattle.swc_ast.specs.declared.literals.Lit.{Lit}
 use Rattle.swc_ast.specs.SameLaws.{impossible}
 use Rattle.swc_ast.specs.Views.{expr_tree}
 use Rattle.swc_ast.proofs.ApartExpressions.{ExprForm, expr_form, expr_at}
-use Rattle.swc_ast.proofs.Labels.{label}
 use Rattle.swc_ast.specs.declared.names.Ident.{Ident}
 use Rattle.swc_ast.specs.declared.declarations.Decl.TheOpen as Open
 use Rattle.swc_ast.specs.declared.declarations.Decl.TheViews.{roll-Expr, out-Expr, roll-out-Expr}
@@ -23,7 +22,7 @@ use Rattle.expr_members.specs.Objects.{is_object, is_opened_object}
 
 -- which variant an expression with a tree is
 abbrev form : Tree → ℕ
-form t = expr_form (label t)
+form t = expr_form (label_of t)
 
 other_than_array : (e : Expr) → ((y : ArrayLit Expr) → e ≡ in_expr.Array y → ⊥) → (2 == form (expr_tree e)) ≡ false
 other_than_array e none = by (out-Expr e) (roll-out-Expr e)

@@ -9,7 +9,7 @@ use Rattle.std.proofs.lemmas.Fmt.{decimal_by_steps}
 use Rattle.std.specs.declared.alloc.Global.{Global}
 use Rattle.std.specs.declared.vec.Vec.{Vec}
 use Rattle.swc_ast.specs.Tree as tree
-use Rattle.swc_ast.specs.Tree.{SpreadRecord, Object, KeyValue, Method, Tree, node, Forest, ε, ◌⊳◌}
+use Rattle.swc_ast.specs.Tree.{SpreadRecord, Object, KeyValue, Method, Tree, node, Forest, ε, ◌⊳◌, label_of}
 use Rattle.swc_ast.specs.SameLaws.{impossible}
 use Rattle.swc_ast.specs.Parts.{list_trees}
 use Rattle.swc_ast.specs.Scope.{joined}
@@ -17,7 +17,6 @@ use Rattle.swc_ast.specs.Expressions.{key_tree, object_tree}
 use Rattle.swc_ast.specs.Views.{expr_tree, prop_tree, prop_or_spread_tree}
 use Rattle.swc_ast.proofs.ApartProps.{PropForm, prop_form, prop_at, prop_number}
 use Rattle.swc_ast.proofs.Equations.{expr_tree-Object, prop_or_spread_tree-Spread}
-use Rattle.swc_ast.proofs.Labels.{label}
 use Rattle.swc_ast.specs.declared.Span.{Span}
 use Rattle.swc_ast.specs.declared.declarations.Decl.TheOpen as Open
 use Rattle.swc_ast.specs.declared.declarations.Decl.TheViews.{out-Prop, roll-out-Prop}
@@ -43,14 +42,14 @@ prop_form_some (Open.Shorthand n) = refl
 prop_form_some (Open.KeyValue n) = refl
 prop_form_some (Open.Method n) = refl
 
-prop_some : (p : Prop) → (0 == prop_form (label (prop_tree p))) ≡ false
-prop_some p = subst (λ q. (0 == prop_form (label (prop_tree q))) ≡ false) (roll-out-Prop p) (ap (λ n. 0 == n) (prop_at (out-Prop p)) ∙ prop_form_some (out-Prop p))
+prop_some : (p : Prop) → (0 == prop_form (label_of (prop_tree p))) ≡ false
+prop_some p = subst (λ q. (0 == prop_form (label_of (prop_tree q))) ≡ false) (roll-out-Prop p) (ap (λ n. 0 == n) (prop_at (out-Prop p)) ∙ prop_form_some (out-Prop p))
 
-no_spread_by_form : (t : Tree) → (0 == prop_form (label t)) ≡ false → is_record_spread t ≡ false
+no_spread_by_form : (t : Tree) → (0 == prop_form (label_of t)) ≡ false → is_record_spread t ≡ false
 no_spread_by_form (node tree.SpreadRecord ss ts) h = impossible (sym h)
 no_spread_by_form (node _ ss ts) h = refl
 
-closed_by_form : (t : Tree) → (0 == prop_form (label t)) ≡ false → opens_property t ≡ false
+closed_by_form : (t : Tree) → (0 == prop_form (label_of t)) ≡ false → opens_property t ≡ false
 closed_by_form (node tree.SpreadRecord ss ts) h = impossible (sym h)
 closed_by_form (node _ ss ts) h = refl
 

@@ -13,8 +13,8 @@ ghost use Rattle.expr_members.specs.Objects.{has_key as tree_has_key, has_text a
 use crate::keys::index_of;
 use std::alloc::{AllocError, Global};
 use swc_ast::{Expr, Invalid, ObjectLit, Prop, PropName, PropOrSpread, Span};
-use swc_keys::are_keys;
 use swc_utils::{ExprCtx, ExprExt, is_literal};
+use tree_keys::are_keys;
 
 /// Whether an expression is an object literal.
 #[tactic(auto, using(swc_ast::proofs::Equations::forms, crate::proofs::OtherNodes::no_object))]

@@ -12,7 +12,7 @@ use Rattle.swc_ast.specs.declared.UnaryOp.TheVariants as op
 use Rattle.swc_ast.specs.declared.errors.PassError.{PassError}
 use Rattle.swc_ast.specs.declared.expressions.Expr.{Expr}
 use Rattle.swc_ast.specs.declared.expressions.UnaryExpr.{UnaryExpr}
-use Rattle.swc_static.specs.Free.{kind_at}
+use Rattle.static_proofs.specs.Free.{kind_at}
 use Rattle.expr_rules.specs.Replaced.{expr_redex}
 use Rattle.expr_operators.specs.Nodes.{unary_of}
 

@@ -2,7 +2,7 @@
 ghost use Rattle.std.specs.Prelude.{◌≡◌, if◌then◌else◌, IfOk, IsNone, false, true};
 ghost use Rattle.swc_ast.specs.Redex.{is_simple_literal};
 ghost use Rattle.swc_ast.specs.Views.{expr_tree};
-ghost use Rattle.swc_static.specs.Free.{kind_at};
+ghost use Rattle.static_proofs.specs.Free.{kind_at};
 ghost use Rattle.swc_utils.specs.Globals.{unresolved};
 ghost use Rattle.expr_rules.specs.Choices as choices;
 ghost use Rattle.expr_rules.specs.Replaced.{Replaced, expr_redex};

@@ -4,7 +4,7 @@ ghost use Rattle.swc_ast.specs.Operators.{type_name};
 ghost use Rattle.swc_ast.specs.Redex as redex;
 ghost use Rattle.swc_ast.specs.Views.{expr_tree};
 ghost use Rattle.swc_ast.specs.declared.UnaryOp.TheVariants as op;
-ghost use Rattle.swc_static.specs.Free.{kind_at};
+ghost use Rattle.static_proofs.specs.Free.{kind_at};
 ghost use Rattle.swc_utils.specs.Effects.{is_read};
 ghost use Rattle.swc_utils.specs.Globals.{unresolved};
 ghost use Rattle.swc_utils.specs.Known.{lit_value, minus};

@@ -22,7 +22,7 @@ use Rattle.pass_rules.specs.Leaves.{text_tree, void_tree, guarded, key_text_of, 
 use Rattle.expr_rules.specs.Arithmetic.{admits, fold_texts, fold_sum, regroups, fold_numbers}
 use Rattle.expr_rules.specs.Choices.{chosen_arm, is_logical, chosen_side}
 use Rattle.expr_rules.specs.Members.{text_at, array_at, value_named}
-use Rattle.swc_keys.specs.Keys.{are_keys, keys_of}
+use Rattle.tree_keys.specs.Keys.{are_keys, keys_of}
 use Rattle.expr_rules.specs.Comparisons.{compares, is_comparison, beside_itself, text_beside_itself}
 use Rattle.expr_rules.specs.Sequences.{front_folded, some_folds}
 use Rattle.expr_rules.specs.Spreads.{opened_kinds, opened_items, opened_properties, spreads_array, spreads_object}

@@ -2,20 +2,19 @@
 use Rattle.std.proofs.Common.{◌≡◌, ℕ, Bool, true, false, ◌==◌, None, refl, sym, ap, ◌∙◌}
 use Rattle.std.proofs.lemmas.Bool.{true≢false}
 use Rattle.swc_ast.specs.Tree as tree
-use Rattle.swc_ast.specs.Tree.{Tree, node}
+use Rattle.swc_ast.specs.Tree.{Tree, node, label_of}
 use Rattle.swc_ast.specs.Views.{expr_tree}
 use Rattle.swc_ast.specs.declared.declarations.Decl.TheOpen as Open
 use Rattle.swc_ast.specs.declared.declarations.Decl.TheViews.{roll-Expr, out-Expr, roll-out-Expr}
 use Rattle.swc_ast.specs.declared.expressions.Expr.{Expr}
 use Rattle.swc_ast.specs.declared.expressions.Expr.TheVariants as in_expr
 use Rattle.swc_ast.proofs.ApartExpressions.{expr_form, ExprForm, expr_number, expr_at}
-use Rattle.swc_ast.proofs.Labels.{label}
 use Rattle.given_globals.specs.Rows.{key_of_tree, is_read}
 
-form_of : (p : ExprForm) (e : Expr) → roll-Expr p ≡ e → expr_form (label (expr_tree e)) ≡ expr_number p
-form_of p e r = ap (λ x. expr_form (label (expr_tree x))) (sym r) ∙ expr_at p
+form_of : (p : ExprForm) (e : Expr) → roll-Expr p ≡ e → expr_form (label_of (expr_tree e)) ≡ expr_number p
+form_of p e r = ap (λ x. expr_form (label_of (expr_tree x))) (sym r) ∙ expr_at p
 
-no_read : (t : Tree) (n : ℕ) → expr_form (label t) ≡ n → (n == 9) ≡ false → (n == 14) ≡ false → is_read t ≡ false
+no_read : (t : Tree) (n : ℕ) → expr_form (label_of t) ≡ n → (n == 9) ≡ false → (n == 14) ≡ false → is_read t ≡ false
 no_read (node (tree.Dot k) ss cs) n h j i = absurd (true≢false (ap (λ m. m == 9) h ∙ j))
 no_read (node tree.Index ss cs) n h j i = absurd (true≢false (ap (λ m. m == 9) h ∙ j))
 no_read (node (tree.Read x) ss cs) n h j i = absurd (true≢false (ap (λ m. m == 14) h ∙ i))
@@ -30,7 +29,7 @@ other_read e f g = by (out-Expr e) (roll-out-Expr e)
     by (Open.Ident n) r = absurd (g n (sym r ∙ in_expr.rolls-Ident n))
     by p r = no_read (expr_tree e) (expr_number p) (form_of p e r) refl refl
 
-no_text : (t : Tree) (n : ℕ) → expr_form (label t) ≡ n → (n == 15) ≡ false → None ≡ key_of_tree t
+no_text : (t : Tree) (n : ℕ) → expr_form (label_of t) ≡ n → (n == 15) ≡ false → None ≡ key_of_tree t
 no_text (node (tree.StrLit k) ss cs) n h j = absurd (true≢false (ap (λ m. m == 15) h ∙ j))
 no_text (node l ss cs) n h j = refl
 
@@ -47,7 +46,7 @@ abbrev pub is_name : Tree → Bool
 is_name (node (tree.Read x) ss cs) = true
 is_name t = false
 
-no_name : (t : Tree) (n : ℕ) → expr_form (label t) ≡ n → (n == 14) ≡ false → is_name t ≡ false
+no_name : (t : Tree) (n : ℕ) → expr_form (label_of t) ≡ n → (n == 14) ≡ false → is_name t ≡ false
 no_name (node (tree.Read x) ss cs) n h j = absurd (true≢false (ap (λ m. m == 14) h ∙ j))
 no_name (node l ss cs) n h j = refl
 
@@ -64,7 +63,7 @@ is_member (node (tree.Dot k) ss cs) = true
 is_member (node tree.Index ss cs) = true
 is_member t = false
 
-no_member : (t : Tree) (n : ℕ) → expr_form (label t) ≡ n → (n == 9) ≡ false → is_member t ≡ false
+no_member : (t : Tree) (n : ℕ) → expr_form (label_of t) ≡ n → (n == 9) ≡ false → is_member t ≡ false
 no_member (node (tree.Dot k) ss cs) n h j = absurd (true≢false (ap (λ m. m == 9) h ∙ j))
 no_member (node tree.Index ss cs) n h j = absurd (true≢false (ap (λ m. m == 9) h ∙ j))
 no_member (node l ss cs) n h j = refl

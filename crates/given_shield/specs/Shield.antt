@@ -5,8 +5,8 @@ use Rattle.swc_ast.specs.declared.Span.{Span}
 use Rattle.swc_ast.specs.Expressions.{is_eval}
 use Rattle.swc_ast.specs.Meaning.{is_host_name}
 use Rattle.swc_ast.specs.Tree.{NumLit, Read, Seq, Dot, Index, Tree, node, ε, ◌⊳◌}
-use Rattle.swc_put.specs.declared.rules.Spot.{Spot}
-use Rattle.swc_put.specs.declared.rules.Spot.TheVariants as spot
+use Rattle.tree_put.specs.declared.rules.Spot.{Spot}
+use Rattle.tree_put.specs.declared.rules.Spot.TheVariants as spot
 
 abbrev pub is_bare_callee : Tree → Bool
 is_bare_callee (node (Dot k) ss cs) = true

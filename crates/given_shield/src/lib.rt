@@ -10,7 +10,7 @@ ghost use Rattle.given_shield.specs.Shield.{is_bare_callee as bare_callee, is_ba
 
 use std::alloc::{AllocError, Global};
 use swc_ast::{Expr, Ident, Lit, Number, SeqExpr, Span};
-use swc_put::Spot;
+use tree_put::Spot;
 
 /// The span of what stands nowhere in the text.
 const NOWHERE: Span = Span { lo: 0, hi: 0 };

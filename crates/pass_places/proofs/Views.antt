@@ -5,7 +5,7 @@ use Rattle.swc_ast.specs.Expressions.{unary_node, param_tree}
 use Rattle.swc_ast.specs.Parts.{leaf, ident_name, list_trees}
 use Rattle.swc_ast.specs.Redex.{is_zero, is_delete}
 use Rattle.swc_ast.specs.Tree as tree
-use Rattle.swc_ast.specs.Tree.{Tree, node, ε, ◌⊳◌}
+use Rattle.swc_ast.specs.Tree.{Tree, node, ε, ◌⊳◌, label_of}
 use Rattle.swc_ast.specs.Views.{expr_tree}
 use Rattle.swc_ast.specs.declared.Span.{Span}
 use Rattle.swc_ast.specs.declared.UnaryOp.{UnaryOp}
@@ -23,11 +23,10 @@ use Rattle.swc_ast.specs.declared.literals.Lit.TheVariants as lit
 use Rattle.swc_ast.specs.declared.names.Ident.{Ident}
 use Rattle.swc_ast.proofs.ApartExpressions.{expr_form, ExprForm, expr_number, expr_at}
 use Rattle.swc_ast.proofs.Equations.{expr_tree-Unary, expr_tree-Seq, expr_tree-Lit}
-use Rattle.swc_static.specs.Names.{label_of}
 use Rattle.swc_utils.specs.Globals.{is_undefined}
 use Rattle.swc_utils.specs.Pure.{pure}
-use Rattle.swc_walk.specs.Parts.{stands_alone}
-use Rattle.swc_walk.specs.declared.rules.Place.{Place}
+use Rattle.tree_walk.specs.Parts.{stands_alone}
+use Rattle.tree_walk.specs.declared.rules.Place.{Place}
 use Rattle.pass_rules.specs.Defaults.{is_void}
 use Rattle.pass_rules.specs.Leaves.{guarded}
 use Rattle.pass_places.specs.Places.{is_shielding, is_shield, nowhere, shielded}

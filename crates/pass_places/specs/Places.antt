@@ -3,8 +3,8 @@ use Rattle.std.specs.Prelude.{Bool, false, not, ◌&&◌, if◌then◌else◌, [
 use Rattle.swc_ast.specs.declared.Span.{Span}
 use Rattle.swc_ast.specs.Redex.{is_zero}
 use Rattle.swc_ast.specs.Tree.{Seq, Tree, node, Forest, ε, ◌⊳◌}
-use Rattle.swc_walk.specs.Parts.{stands_alone}
-use Rattle.swc_walk.specs.declared.rules.Place.{Place}
+use Rattle.tree_walk.specs.Parts.{stands_alone}
+use Rattle.tree_walk.specs.declared.rules.Place.{Place}
 use Rattle.pass_rules.specs.Leaves.{guarded}
 
 -- the literal 0, and what would mean something else by itself

@@ -5,13 +5,13 @@ ghost use Rattle.swc_ast.specs.Parts.{list_trees};
 ghost use Rattle.swc_ast.specs.Redex as redex;
 ghost use Rattle.swc_ast.specs.Views.{expr_tree};
 ghost use Rattle.swc_ast.specs.declared.expressions.Expr.{size-Expr};
-ghost use Rattle.swc_static.specs.Names.{label_of};
+ghost use Rattle.swc_ast.specs.Tree.{label_of};
 ghost use Rattle.pass_rules.specs.Leaves.{guarded};
 ghost use Rattle.pass_places.specs.Places as places;
 
 use std::alloc::{AllocError, Global};
 use swc_ast::{Expr, Lit, Number, SeqExpr, Span, UnaryOp};
-use swc_walk::{Place, fits};
+use tree_walk::{Place, fits};
 
 /// The span of what stands nowhere in the text.
 const NOWHERE: Span = Span { lo: 0, hi: 0 };

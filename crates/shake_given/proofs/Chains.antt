@@ -1,21 +1,19 @@
--- The tree of an expression has an expression's label, and a chain ends at what is no name and no member.
+-- The tree of an expression has an expression's label_of, and a chain ends at what is no name and no member.
 use Rattle.std.proofs.Common.{◌≡◌, ℕ, ◌≤◌, true, false, ◌&&◌, ◌==◌, subst, sym, ap, arith, refl, ◌∙◌}
 use Rattle.std.proofs.lemmas.Bool.{true≢false}
 use Rattle.swc_ast.specs.declared.declarations.Decl.TheOpen as Open
 use Rattle.swc_ast.specs.declared.declarations.Decl.TheViews.{roll-Expr, out-Expr, roll-out-Expr}
 use Rattle.swc_ast.specs.declared.expressions.Expr.{Expr}
-use Rattle.swc_ast.specs.Tree.{Tree, node, Label, NumLit, StrLit, BoolLit, NullLit, This, Invalid, Read, Template, Array, Object, Fn, Arrow, Unary, TypeOfName, Binary, Cond, Seq, Dot, Index, Call, New, CallEval, CallDot, CallIndex, Assign, AssignDot, AssignIndex, Update, UpdateDot, UpdateIndex}
+use Rattle.swc_ast.specs.Tree.{Tree, node, Label, NumLit, StrLit, BoolLit, NullLit, This, Invalid, Read, Template, Array, Object, Fn, Arrow, Unary, TypeOfName, Binary, Cond, Seq, Dot, Index, Call, New, CallEval, CallDot, CallIndex, Assign, AssignDot, AssignIndex, Update, UpdateDot, UpdateIndex, label_of}
 use Rattle.swc_ast.specs.Views.{expr_tree}
 use Rattle.swc_ast.proofs.ApartExpressions.{ExprForm, expr_form, expr_number, expr_at}
-use Rattle.swc_static.specs.Drawn.{is_expression}
-use Rattle.swc_static.specs.Names.{label_of}
+use Rattle.swc_ast.specs.Labels.{is_expression}
 use Rattle.swc_ast.specs.Expressions.{member_node, member_tree}
 use Rattle.swc_ast.specs.declared.Span.{Span}
 use Rattle.swc_ast.specs.declared.expressions.MemberExpr.{MemberExpr}
 use Rattle.swc_ast.specs.declared.expressions.MemberProp.{MemberProp}
 use Rattle.swc_ast.specs.declared.expressions.MemberProp.TheVariants as prop
 use Rattle.swc_ast.specs.declared.expressions.Expr.TheVariants as in_expr
-use Rattle.swc_ast.proofs.Labels.{label}
 use Rattle.shake_given.specs.Reads.{is_chain, is_text}
 use Rattle.shake_given.specs.Twice.{is_written}
 
@@ -67,10 +65,10 @@ chain_by s o (prop.Computed n) = refl
 pub chain_member : (n : MemberExpr Expr) → is_chain (member_tree expr_tree n) ≡ (is_written n.prop && is_chain (expr_tree n.obj.value))
 chain_member n = chain_by n.span n.obj.value n.prop
 
-form_of : (p : ExprForm) (e : Expr) → roll-Expr p ≡ e → expr_form (label (expr_tree e)) ≡ expr_number p
-form_of p e r = ap (λ x. expr_form (label (expr_tree x))) (sym r) ∙ expr_at p
+form_of : (p : ExprForm) (e : Expr) → roll-Expr p ≡ e → expr_form (label_of (expr_tree e)) ≡ expr_number p
+form_of p e r = ap (λ x. expr_form (label_of (expr_tree x))) (sym r) ∙ expr_at p
 
-no_chain : (t : Tree) (n : ℕ) → expr_form (label t) ≡ n → (n == 9) ≡ false → (n == 14) ≡ false → false ≡ is_chain t
+no_chain : (t : Tree) (n : ℕ) → expr_form (label_of t) ≡ n → (n == 9) ≡ false → (n == 14) ≡ false → false ≡ is_chain t
 no_chain (node (Dot k) ss cs) n h j i = absurd (true≢false (ap (λ m. m == 9) h ∙ j))
 no_chain (node Index ss cs) n h j i = absurd (true≢false (ap (λ m. m == 9) h ∙ j))
 no_chain (node (Read x) ss cs) n h j i = absurd (true≢false (ap (λ m. m == 14) h ∙ i))
@@ -85,7 +83,7 @@ other_chain e f g = by (out-Expr e) (roll-out-Expr e)
     by (Open.Ident n) r = absurd (g n (sym r ∙ in_expr.rolls-Ident n))
     by p r = no_chain (expr_tree e) (expr_number p) (form_of p e r) refl refl
 
-no_text : (t : Tree) (n : ℕ) → expr_form (label t) ≡ n → (n == 15) ≡ false → false ≡ is_text t
+no_text : (t : Tree) (n : ℕ) → expr_form (label_of t) ≡ n → (n == 15) ≡ false → false ≡ is_text t
 no_text (node (StrLit k) ss cs) n h j = absurd (true≢false (ap (λ m. m == 15) h ∙ j))
 no_text (node l ss cs) n h j = refl
 

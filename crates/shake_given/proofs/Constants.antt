@@ -5,7 +5,7 @@ use Rattle.swc_ast.specs.Tree.{Text, Name, same_name, Label, StrLit, Read, Dot, 
 use Rattle.swc_pass.specs.Given.{Found, a_plain}
 use Rattle.swc_pass.specs.Inlined.{by_plain}
 use Rattle.swc_pass.specs.Constants.{Constants, or_expression, by_specifier, by_namespace, in_specifiers, in_item, in_items, constant, member, member_of, constant_at, constants}
-use Rattle.swc_given.specs.Givable.{IsGivable, AllGivable}
+use Rattle.given_rules.specs.Givable.{IsGivable, AllGivable}
 
 same : {v w : Tree} → Some v ≡ Some w → v ≡ w
 same e = cc

@@ -7,7 +7,7 @@ use Rattle.swc_ast.specs.declared.modules.Module.{Module}
 use Rattle.swc_ast.specs.declared.names.Mark.{Mark}
 use Rattle.swc_levels.specs.Levels.{levels}
 use Rattle.swc_pass.specs.Given.{Answers}
-use Rattle.swc_given.specs.Cycles.{Cycle}
+use Rattle.given_rules.specs.Cycles.{Cycle}
 use Rattle.given_globals.specs.Globals.{answers_of}
 use Rattle.given_globals.specs.declared.settings.Settings.{Settings}
 use Rattle.swc_inline_globals.specs.Nesting.{Nests, TellsOfTree}

@@ -3,12 +3,11 @@ use Rattle.std.proofs.Common.{◌≡◌, ◌↔◌, IsTrue, ℕ, arith, Bool, tr
 use Rattle.std.proofs.lemmas.Bool.{false≢true}
 use Rattle.swc_ast.specs.Core.{IsCore, fits}
 use Rattle.swc_ast.specs.Resolved.{Targets, no_targets, own_scopes, aimed, apart, IsResolved}
-use Rattle.swc_ast.specs.Tree.{Tree}
+use Rattle.swc_ast.specs.Tree.{Tree, label_of}
 use Rattle.swc_ast.specs.Valid.{valid}
-use Rattle.swc_static.specs.Drawn.{is_expression}
-use Rattle.swc_static.specs.Names.{label_of}
-use Rattle.swc_static.proofs.Targets.{More, no_labels, aimed_more}
-use Rattle.swc_given.specs.Givable.{IsGivable}
+use Rattle.swc_ast.specs.Labels.{is_expression}
+use Rattle.static_proofs.proofs.Targets.{More, no_labels, aimed_more}
+use Rattle.given_rules.specs.Givable.{IsGivable}
 use Rattle.shake_given.specs.Twice.{twice}
 
 -- twice the same, and what the nodes round it add

@@ -11,8 +11,8 @@ use Rattle.swc_ast.specs.Tree.{Text, Tree}
 use Rattle.swc_ast.specs.Views.{expr_tree}
 use Rattle.swc_expr_map.specs.Entries.{found}
 use Rattle.swc_expr_map.specs.Order.{same_key}
-use Rattle.swc_given.specs.Givable.{IsGivable}
-use Rattle.const_rules.specs.Views.{in_exports, value_of}
+use Rattle.given_rules.specs.Givable.{IsGivable}
+use Rattle.const_imports.specs.Views.{in_exports, value_of}
 use Rattle.shake_options.specs.Flags.{FlagText, defined, an_env, a_type, a_const}
 use Rattle.shake_given.specs.Reads.{env_of, export_of, literal, IsNothing, Takes, Reads, no_flags, one_more}
 use Rattle.shake_given.specs.declared.given.Given.{Given}

@@ -16,7 +16,7 @@ use Rattle.swc_pass.specs.Given.{Found, nothing, a_value, a_plain}
 use Rattle.swc_pass.specs.Inlined.{Given, shape, or_else, by_value, by_plain, by_expression, is_env, by_env, by_key, by_part, leads_outside}
 use Rattle.given_globals.specs.Globals.{expression_rows, global_row, rows_of, given_of, answers_of, mark_of}
 use Rattle.given_globals.specs.declared.settings.Settings.{Settings}
-use Rattle.swc_given.specs.Givable.{IsGivable, AllGivable}
+use Rattle.given_rules.specs.Givable.{IsGivable, AllGivable}
 use Rattle.shake_given.specs.declared.given.GivenNames.{GivenNames}
 use Rattle.shake_given.specs.Prepared.{AreSettings}
 

@@ -10,7 +10,7 @@ use Rattle.std.specs.String.{string_cmp}
 use Rattle.std.specs.declared.alloc.Global.{Global}
 use Rattle.std.specs.declared.string.String.{String}
 use Rattle.swc_ast.specs.Tree.{Text, Tree}
-use Rattle.const_rules.specs.Views.{in_exports}
+use Rattle.const_imports.specs.Views.{in_exports}
 
 -- an entry is put in, or taken out, at a text
 abbrev pub Changes : {X : Type 0} → Text → BTreeMap (String Global) X → BTreeMap (String Global) X → Option X → Type 0

@@ -13,7 +13,7 @@ use Rattle.swc_pass.specs.Given.{Answers, observe_given}
 use Rattle.given_globals.specs.Globals.{expressions, answers_of}
 use Rattle.given_globals.specs.declared.settings.Settings.{Settings}
 use Rattle.swc_inline_globals.specs.Answers.{Inlined}
-use Rattle.const_rules.specs.declared.given.GivenModules.{GivenModules}
+use Rattle.const_imports.specs.declared.given.GivenModules.{GivenModules}
 use Rattle.const_pass.specs.Replaced.{constants_in, Replaced}
 use Rattle.shake_options.specs.Flags.{FlagText}
 use Rattle.shake_given.specs.declared.given.Given.{Given}

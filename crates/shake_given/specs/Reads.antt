@@ -5,8 +5,8 @@ use Rattle.swc_ast.specs.Tree.{Text, StrLit, Read, Dot, Index, Tree, node, Îµ, â
 use Rattle.swc_ast.specs.Views.{expr_tree}
 use Rattle.swc_expr_map.specs.Entries.{found}
 use Rattle.swc_expr_map.specs.Order.{same_key}
-use Rattle.swc_given.specs.Givable.{IsGivable}
-use Rattle.const_rules.specs.Views.{is_given, value_of}
+use Rattle.given_rules.specs.Givable.{IsGivable}
+use Rattle.const_imports.specs.Views.{is_given, value_of}
 use Rattle.shake_options.specs.Flags.{FlagText, defined, an_env, a_type, a_const}
 use Rattle.shake_given.specs.declared.given.Given.{Given}
 

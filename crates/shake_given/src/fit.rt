@@ -3,7 +3,7 @@ ghost use Rattle.std.specs.Prelude.{◌≡◌, ◌↔◌, IsTrue, IfOk, IfErr};
 ghost use Rattle.swc_ast.specs.Modules.{item_tree, module_tree};
 ghost use Rattle.swc_ast.specs.Parts.{lit_tree};
 ghost use Rattle.swc_ast.specs.Views.{expr_tree};
-ghost use Rattle.swc_given.specs.Givable.{IsGivable};
+ghost use Rattle.given_rules.specs.Givable.{IsGivable};
 ghost use Rattle.shake_given.specs.Reads.{is_chain, is_text};
 ghost use Rattle.shake_given.specs.Twice.{is_written, statement, twice};
 ghost use Rattle.shake_given.specs.declared.error.GivenError.TheVariants.{OutOfMemory};

@@ -10,8 +10,8 @@ ghost use Rattle.shake_given.specs.Prepared.{Replaces, Puts, Prepared, Stays, mo
 
 use crate::error::GivenError;
 use crate::given::{Given, GivenNames};
+use const_imports::GivenModules;
 use const_pass::ConstModules;
-use const_rules::GivenModules;
 use shake_options::Flag;
 use std::alloc::Global;
 use std::collections::BTreeMap;

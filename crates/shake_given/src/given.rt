@@ -1,14 +1,14 @@
 //! What flags give, read.
 ghost use Rattle.std.specs.Prelude.{IfOk, IfErr, OnOk, map};
 ghost use Rattle.swc_ast.specs.Views.{expr_tree};
-ghost use Rattle.swc_given.specs.Givable.{IsGivable};
+ghost use Rattle.given_rules.specs.Givable.{IsGivable};
 ghost use Rattle.shake_options.specs.Flags.{flag_texts};
 ghost use Rattle.shake_given.specs.Reads.{IsNothing, Defines, SetsEnv, SetsType, Exports, Takes, Reads};
 ghost use Rattle.shake_given.specs.Refusals.{IsOther};
 
 use crate::error::GivenError;
 use crate::key::Key;
-use const_rules::GivenModules;
+use const_imports::GivenModules;
 use shake_options::Flag;
 use std::alloc::{AllocError, Global};
 use std::collections::BTreeMap;

@@ -1,7 +1,7 @@
 //! Keys, and what is read for them.
 ghost use Rattle.std.specs.Prelude.{◌≡◌, true, IfOk, IfErr};
 ghost use Rattle.swc_ast.specs.Views.{expr_tree};
-ghost use Rattle.swc_given.specs.Givable.{IsGivable};
+ghost use Rattle.given_rules.specs.Givable.{IsGivable};
 ghost use Rattle.shake_given.specs.Reads.{is_chain};
 ghost use Rattle.shake_given.specs.Refusals.{IsOther};
 

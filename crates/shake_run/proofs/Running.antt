@@ -8,8 +8,8 @@ use Rattle.swc_ast.specs.Tree.{Text, Tree}
 use Rattle.swc_ast.specs.Valid.{valid}
 use Rattle.swc_ast.specs.declared.names.Mark.{Mark}
 use Rattle.swc_pass.specs.Pass.{PassSpec, Keeps}
-use Rattle.swc_carry.specs.Carry.{Pass as Carried, constants, inlines}
-use Rattle.swc_carry_facts.specs.Propagation.{propagation_spec}
+use Rattle.carry_rules.specs.Carry.{Pass as Carried, constants, inlines}
+use Rattle.carry_proofs.specs.Propagation.{propagation_spec}
 use Rattle.swc_expr.specs.Simplified.{simplify_spec}
 use Rattle.swc_branch.specs.Removed.{remove_spec}
 use Rattle.swc_dce.specs.Configured.{told}

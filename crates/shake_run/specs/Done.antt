@@ -5,7 +5,7 @@ use Rattle.swc_ast.specs.Marks.{mark_number}
 use Rattle.swc_ast.specs.Resolved.{IsResolved}
 use Rattle.swc_ast.specs.Tree.{Text, Tree}
 use Rattle.swc_ast.specs.declared.names.Mark.{Mark}
-use Rattle.swc_captures.specs.Captured.{no_scope, captured}
+use Rattle.tree_captures.specs.Captured.{no_scope, captured}
 use Rattle.shake_options.specs.CommandLine.{command_line, retained_in, flags_in}
 use Rattle.shake_options.specs.Flags.{FlagText}
 use Rattle.shake_options.specs.declared.flags.Flag.{Flag}

@@ -3,8 +3,8 @@ use Rattle.std.specs.Prelude.{ℕ, true, false, List, None}
 use Rattle.swc_ast.specs.Tree.{Text}
 use Rattle.swc_ast.specs.declared.names.Mark.{Mark}
 use Rattle.swc_pass.specs.Pass.{PassSpec}
-use Rattle.swc_carry.specs.Carry.{constants, inlines}
-use Rattle.swc_carry_facts.specs.Propagation.{propagation_spec}
+use Rattle.carry_rules.specs.Carry.{constants, inlines}
+use Rattle.carry_proofs.specs.Propagation.{propagation_spec}
 use Rattle.swc_expr.specs.Simplified.{simplify_spec}
 use Rattle.swc_branch.specs.Removed.{remove_spec}
 use Rattle.swc_dce.specs.Shaken.{Told, shake_spec}

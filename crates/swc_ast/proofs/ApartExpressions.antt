@@ -2,12 +2,12 @@
 use Rattle.std.proofs.Common.{◌≡◌, refl, sym, ap, ◌∙◌, Bool, true, false, ◌==◌}
 use Rattle.std.specs.Prelude.{ℕ, [], ◌∷◌, if◌then◌else◌}
 use Rattle.swc_ast.specs.Tree as tree
-use Rattle.swc_ast.specs.Tree.{Label, Tree, node, Forest, ◌⊳◌}
+use Rattle.swc_ast.specs.Tree.{Label, Tree, node, Forest, ◌⊳◌, label_of}
 use Rattle.swc_ast.specs.Parts.{lit_tree, list_trees}
 use Rattle.swc_ast.specs.Expressions.{unary_node, update_node, member_update, assign_node, member_assign, member_node, call_node, is_eval}
 use Rattle.swc_ast.specs.Same.{same}
 use Rattle.swc_ast.specs.Views.{expr_tree}
-use Rattle.swc_ast.proofs.Labels.{label, differ}
+use Rattle.swc_ast.proofs.Labels.{differ}
 use Rattle.swc_ast.proofs.Equations.{expr_tree-This, expr_tree-Array, expr_tree-Object, expr_tree-Fn, expr_tree-Unary, expr_tree-Update, expr_tree-Bin, expr_tree-Assign, expr_tree-Member, expr_tree-Cond, expr_tree-Call, expr_tree-New, expr_tree-Seq, expr_tree-Ident, expr_tree-Lit, expr_tree-Tpl, expr_tree-Arrow, expr_tree-Invalid, arrow_tree-is}
 use Rattle.swc_ast.specs.declared.declarations.Decl.TheViews.{roll-Expr, out-Expr, roll-out-Expr}
 use Rattle.swc_ast.specs.declared.expressions.Expr.TheVariants as in_expr
@@ -38,7 +38,7 @@ use Rattle.swc_ast.specs.declared.statements.SwitchStmt.{SwitchStmt}
 use Rattle.swc_ast.specs.declared.statements.WhileStmt.{WhileStmt}
 use Rattle.swc_ast.specs.declared.statements.Stmt.{Stmt}
 
--- which expression a label is of, by number
+-- which expression a label_of is of, by number
 abbrev pub expr_form : Label → ℕ
 expr_form tree.This = 1
 expr_form (tree.Array _) = 2
@@ -95,71 +95,71 @@ expr_number (Open.Tpl n) = 16
 expr_number (Open.Arrow n) = 17
 expr_number (Open.Invalid n) = 18
 
-unary_at : (o : UnaryOp) (s : Span) (t : Tree) → expr_form (label (unary_node o s t)) ≡ 5
+unary_at : (o : UnaryOp) (s : Span) (t : Tree) → expr_form (label_of (unary_node o s t)) ≡ 5
 unfolding unary_node
 unary_at op.TypeOf s (node (tree.Read x) ss cs) = refl
 unary_at op.TypeOf s (node _ ss cs) = refl
 unary_at _ s t = refl
 
-update_at : (o : UpdateOp) (b : Bool) (s : Span) (t : AssignTarget Expr) → expr_form (label (update_node expr_tree o b s t)) ≡ 6
+update_at : (o : UpdateOp) (b : Bool) (s : Span) (t : AssignTarget Expr) → expr_form (label_of (update_node expr_tree o b s t)) ≡ 6
 update_at o b s (target.Ident n) = refl
 update_at o b s (target.Member n) = by n.prop
   where
-    by : (p : MemberProp Expr) → expr_form (label (member_update expr_tree o b s n.span n.obj.value p)) ≡ 6
+    by : (p : MemberProp Expr) → expr_form (label_of (member_update expr_tree o b s n.span n.obj.value p)) ≡ 6
     by (prop.Ident i) = refl
     by (prop.Computed c) = refl
 
-assign_at : (o : AssignOp) (s : Span) (t : AssignTarget Expr) (v : Tree) → expr_form (label (assign_node expr_tree o s t v)) ≡ 8
+assign_at : (o : AssignOp) (s : Span) (t : AssignTarget Expr) (v : Tree) → expr_form (label_of (assign_node expr_tree o s t v)) ≡ 8
 assign_at o s (target.Ident n) v = refl
 assign_at o s (target.Member n) v = by n.prop
   where
-    by : (p : MemberProp Expr) → expr_form (label (member_assign expr_tree o s n.span n.obj.value p v)) ≡ 8
+    by : (p : MemberProp Expr) → expr_form (label_of (member_assign expr_tree o s n.span n.obj.value p v)) ≡ 8
     by (prop.Ident i) = refl
     by (prop.Computed c) = refl
 
-member_at : (s : Span) (o : Expr) (p : MemberProp Expr) → expr_form (label (member_node expr_tree s o p)) ≡ 9
+member_at : (s : Span) (o : Expr) (p : MemberProp Expr) → expr_form (label_of (member_node expr_tree s o p)) ≡ 9
 member_at s o (prop.Ident i) = refl
 member_at s o (prop.Computed c) = refl
 
-call_at : (s : Span) (t : Tree) (args : Forest) → expr_form (label (call_node s t args)) ≡ 11
+call_at : (s : Span) (t : Tree) (args : Forest) → expr_form (label_of (call_node s t args)) ≡ 11
 unfolding call_node
 call_at s (node (tree.Dot k) ss cs) args = refl
 call_at s (node tree.Index ss cs) args = refl
 call_at s (node (tree.Read x) ss cs) args = by (is_eval x)
   where
-    by : (e : Bool) → expr_form (label (if e then node (tree.CallEval x) (s ∷ ss) args else node tree.Call (s ∷ []) (node (tree.Read x) ss cs ⊳ args))) ≡ 11
+    by : (e : Bool) → expr_form (label_of (if e then node (tree.CallEval x) (s ∷ ss) args else node tree.Call (s ∷ []) (node (tree.Read x) ss cs ⊳ args))) ≡ 11
     by true = refl
     by false = refl
 call_at s t args = refl
 
-lit_at : (n : Lit) → expr_form (label (lit_tree n)) ≡ 15
+lit_at : (n : Lit) → expr_form (label_of (lit_tree n)) ≡ 15
 lit_at (lit.Str n) = refl
 lit_at (lit.Bool n) = refl
 lit_at (lit.Null n) = refl
 lit_at (lit.Num n) = refl
 
-pub expr_at : (o : ExprForm) → expr_form (label (expr_tree (roll-Expr o))) ≡ expr_number o
-expr_at (Open.This n) = ap (λ t. expr_form (label t)) (ap expr_tree (in_expr.rolls-This n) ∙ expr_tree-This n)
-expr_at (Open.Array n) = ap (λ t. expr_form (label t)) (ap expr_tree (in_expr.rolls-Array n) ∙ expr_tree-Array n)
-expr_at (Open.Object n) = ap (λ t. expr_form (label t)) (ap expr_tree (in_expr.rolls-Object n) ∙ expr_tree-Object n)
-expr_at (Open.Expr::Fn n) = ap (λ t. expr_form (label t)) (ap expr_tree (in_expr.rolls-Fn n) ∙ expr_tree-Fn n)
-expr_at (Open.Unary n) = ap (λ t. expr_form (label t)) (ap expr_tree (in_expr.rolls-Unary n) ∙ expr_tree-Unary n) ∙ unary_at n.op n.span (expr_tree n.arg.value)
-expr_at (Open.Update n) = ap (λ t. expr_form (label t)) (ap expr_tree (in_expr.rolls-Update n) ∙ expr_tree-Update n) ∙ update_at n.op n.prefix n.span n.arg
-expr_at (Open.Bin n) = ap (λ t. expr_form (label t)) (ap expr_tree (in_expr.rolls-Bin n) ∙ expr_tree-Bin n)
-expr_at (Open.Assign n) = ap (λ t. expr_form (label t)) (ap expr_tree (in_expr.rolls-Assign n) ∙ expr_tree-Assign n) ∙ assign_at n.op n.span n.left (expr_tree n.right.value)
-expr_at (Open.Member n) = ap (λ t. expr_form (label t)) (ap expr_tree (in_expr.rolls-Member n) ∙ expr_tree-Member n) ∙ member_at n.span n.obj.value n.prop
-expr_at (Open.Cond n) = ap (λ t. expr_form (label t)) (ap expr_tree (in_expr.rolls-Cond n) ∙ expr_tree-Cond n)
-expr_at (Open.Call n) = ap (λ t. expr_form (label t)) (ap expr_tree (in_expr.rolls-Call n) ∙ expr_tree-Call n) ∙ call_at n.span (expr_tree n.callee.value) (list_trees expr_tree n.args.items)
-expr_at (Open.New n) = ap (λ t. expr_form (label t)) (ap expr_tree (in_expr.rolls-New n) ∙ expr_tree-New n)
-expr_at (Open.Seq n) = ap (λ t. expr_form (label t)) (ap expr_tree (in_expr.rolls-Seq n) ∙ expr_tree-Seq n)
-expr_at (Open.Ident n) = ap (λ t. expr_form (label t)) (ap expr_tree (in_expr.rolls-Ident n) ∙ expr_tree-Ident n)
-expr_at (Open.Lit n) = ap (λ t. expr_form (label t)) (ap expr_tree (in_expr.rolls-Lit n) ∙ expr_tree-Lit n) ∙ lit_at n
-expr_at (Open.Tpl n) = ap (λ t. expr_form (label t)) (ap expr_tree (in_expr.rolls-Tpl n) ∙ expr_tree-Tpl n)
-expr_at (Open.Arrow n) = ap (λ t. expr_form (label t)) (ap expr_tree (in_expr.rolls-Arrow n) ∙ expr_tree-Arrow n ∙ arrow_tree-is n)
-expr_at (Open.Invalid n) = ap (λ t. expr_form (label t)) (ap expr_tree (in_expr.rolls-Invalid n) ∙ expr_tree-Invalid n)
+pub expr_at : (o : ExprForm) → expr_form (label_of (expr_tree (roll-Expr o))) ≡ expr_number o
+expr_at (Open.This n) = ap (λ t. expr_form (label_of t)) (ap expr_tree (in_expr.rolls-This n) ∙ expr_tree-This n)
+expr_at (Open.Array n) = ap (λ t. expr_form (label_of t)) (ap expr_tree (in_expr.rolls-Array n) ∙ expr_tree-Array n)
+expr_at (Open.Object n) = ap (λ t. expr_form (label_of t)) (ap expr_tree (in_expr.rolls-Object n) ∙ expr_tree-Object n)
+expr_at (Open.Expr::Fn n) = ap (λ t. expr_form (label_of t)) (ap expr_tree (in_expr.rolls-Fn n) ∙ expr_tree-Fn n)
+expr_at (Open.Unary n) = ap (λ t. expr_form (label_of t)) (ap expr_tree (in_expr.rolls-Unary n) ∙ expr_tree-Unary n) ∙ unary_at n.op n.span (expr_tree n.arg.value)
+expr_at (Open.Update n) = ap (λ t. expr_form (label_of t)) (ap expr_tree (in_expr.rolls-Update n) ∙ expr_tree-Update n) ∙ update_at n.op n.prefix n.span n.arg
+expr_at (Open.Bin n) = ap (λ t. expr_form (label_of t)) (ap expr_tree (in_expr.rolls-Bin n) ∙ expr_tree-Bin n)
+expr_at (Open.Assign n) = ap (λ t. expr_form (label_of t)) (ap expr_tree (in_expr.rolls-Assign n) ∙ expr_tree-Assign n) ∙ assign_at n.op n.span n.left (expr_tree n.right.value)
+expr_at (Open.Member n) = ap (λ t. expr_form (label_of t)) (ap expr_tree (in_expr.rolls-Member n) ∙ expr_tree-Member n) ∙ member_at n.span n.obj.value n.prop
+expr_at (Open.Cond n) = ap (λ t. expr_form (label_of t)) (ap expr_tree (in_expr.rolls-Cond n) ∙ expr_tree-Cond n)
+expr_at (Open.Call n) = ap (λ t. expr_form (label_of t)) (ap expr_tree (in_expr.rolls-Call n) ∙ expr_tree-Call n) ∙ call_at n.span (expr_tree n.callee.value) (list_trees expr_tree n.args.items)
+expr_at (Open.New n) = ap (λ t. expr_form (label_of t)) (ap expr_tree (in_expr.rolls-New n) ∙ expr_tree-New n)
+expr_at (Open.Seq n) = ap (λ t. expr_form (label_of t)) (ap expr_tree (in_expr.rolls-Seq n) ∙ expr_tree-Seq n)
+expr_at (Open.Ident n) = ap (λ t. expr_form (label_of t)) (ap expr_tree (in_expr.rolls-Ident n) ∙ expr_tree-Ident n)
+expr_at (Open.Lit n) = ap (λ t. expr_form (label_of t)) (ap expr_tree (in_expr.rolls-Lit n) ∙ expr_tree-Lit n) ∙ lit_at n
+expr_at (Open.Tpl n) = ap (λ t. expr_form (label_of t)) (ap expr_tree (in_expr.rolls-Tpl n) ∙ expr_tree-Tpl n)
+expr_at (Open.Arrow n) = ap (λ t. expr_form (label_of t)) (ap expr_tree (in_expr.rolls-Arrow n) ∙ expr_tree-Arrow n ∙ arrow_tree-is n)
+expr_at (Open.Invalid n) = ap (λ t. expr_form (label_of t)) (ap expr_tree (in_expr.rolls-Invalid n) ∙ expr_tree-Invalid n)
 
 pub expr_apart : (s : Bool) (o p : ExprForm) (a b : Expr) → roll-Expr o ≡ a → roll-Expr p ≡ b → (expr_number o == expr_number p) ≡ false → false ≡ same s (expr_tree a) (expr_tree b)
-expr_apart s o p a b at_a at_b = differ expr_form s (expr_tree a) (expr_tree b) (expr_number o) (expr_number p) (ap (λ e. expr_form (label (expr_tree e))) (sym at_a) ∙ expr_at o) (ap (λ e. expr_form (label (expr_tree e))) (sym at_b) ∙ expr_at p)
+expr_apart s o p a b at_a at_b = differ expr_form s (expr_tree a) (expr_tree b) (expr_number o) (expr_number p) (ap (λ e. expr_form (label_of (expr_tree e))) (sym at_a) ∙ expr_at o) (ap (λ e. expr_form (label_of (expr_tree e))) (sym at_b) ∙ expr_at p)
 
 pub other_expr-This : (s : Bool) (a b : Expr) (x : _) → a ≡ in_expr.This x → ((y : _) → b ≡ in_expr.This y → ⊥) → false ≡ same s (expr_tree a) (expr_tree b)
 other_expr-This s a b x is others = by (out-Expr b) (roll-out-Expr b)
@@ -292,12 +292,12 @@ some_form (Open.This n) = refl
 some_form o = refl
 
 -- an expression and a tree that no expression has
-pub no_expr : (s : Bool) (t : Tree) (e : Expr) → expr_form (label t) ≡ 0 → false ≡ same s t (expr_tree e)
-no_expr s t e none = differ expr_form s t (expr_tree e) 0 (expr_number (out-Expr e)) none (ap (λ x. expr_form (label (expr_tree x))) (sym (roll-out-Expr e)) ∙ expr_at (out-Expr e)) (some_form (out-Expr e))
+pub no_expr : (s : Bool) (t : Tree) (e : Expr) → expr_form (label_of t) ≡ 0 → false ≡ same s t (expr_tree e)
+no_expr s t e none = differ expr_form s t (expr_tree e) 0 (expr_number (out-Expr e)) none (ap (λ x. expr_form (label_of (expr_tree x))) (sym (roll-out-Expr e)) ∙ expr_at (out-Expr e)) (some_form (out-Expr e))
 
 some_form-2 : (o : ExprForm) → (expr_number o == 0) ≡ false
 some_form-2 (Open.This n) = refl
 some_form-2 o = refl
 
-pub no_expr-2 : (s : Bool) (e : Expr) (t : Tree) → expr_form (label t) ≡ 0 → false ≡ same s (expr_tree e) t
-no_expr-2 s e t none = differ expr_form s (expr_tree e) t (expr_number (out-Expr e)) 0 (ap (λ x. expr_form (label (expr_tree x))) (sym (roll-out-Expr e)) ∙ expr_at (out-Expr e)) none (some_form-2 (out-Expr e))
+pub no_expr-2 : (s : Bool) (e : Expr) (t : Tree) → expr_form (label_of t) ≡ 0 → false ≡ same s (expr_tree e) t
+no_expr-2 s e t none = differ expr_form s (expr_tree e) t (expr_number (out-Expr e)) 0 (ap (λ x. expr_form (label_of (expr_tree x))) (sym (roll-out-Expr e)) ∙ expr_at (out-Expr e)) none (some_form-2 (out-Expr e))

@@ -2,10 +2,10 @@
 use Rattle.std.proofs.Common.{◌≡◌, refl, sym, ap, ◌∙◌, Bool, false, ◌==◌, subst}
 use Rattle.std.specs.Prelude.{ℕ}
 use Rattle.swc_ast.specs.Tree as tree
-use Rattle.swc_ast.specs.Tree.{Label, Tree}
+use Rattle.swc_ast.specs.Tree.{Label, Tree, label_of}
 use Rattle.swc_ast.specs.Same.{same}
 use Rattle.swc_ast.specs.Views.{prop_tree, prop_or_spread_tree}
-use Rattle.swc_ast.proofs.Labels.{label, differ}
+use Rattle.swc_ast.proofs.Labels.{differ}
 use Rattle.swc_ast.proofs.Equations.{prop_tree-Shorthand, prop_tree-KeyValue, prop_tree-Method, method_tree-is, prop_or_spread_tree-Spread, prop_or_spread_tree-Prop}
 use Rattle.swc_ast.specs.declared.declarations.Decl.TheViews.{roll-Prop, out-Prop, roll-out-Prop, roll-PropOrSpread}
 use Rattle.swc_ast.specs.declared.expressions.Prop.TheVariants as in_prop
@@ -26,7 +26,7 @@ use Rattle.swc_ast.specs.declared.statements.SwitchStmt.{SwitchStmt}
 use Rattle.swc_ast.specs.declared.statements.WhileStmt.{WhileStmt}
 use Rattle.swc_ast.specs.declared.statements.Stmt.{Stmt}
 
--- which property a label is of, by number
+-- which property a label_of is of, by number
 abbrev pub prop_form : Label → ℕ
 prop_form (tree.Shorthand _) = 1
 prop_form tree.KeyValue = 2
@@ -41,13 +41,13 @@ prop_number (Open.Shorthand n) = 1
 prop_number (Open.KeyValue n) = 2
 prop_number (Open.Method n) = 3
 
-pub prop_at : (o : PropForm) → prop_form (label (prop_tree (roll-Prop o))) ≡ prop_number o
-prop_at (Open.Shorthand n) = ap (λ t. prop_form (label t)) (ap prop_tree (in_prop.rolls-Shorthand n) ∙ prop_tree-Shorthand n)
-prop_at (Open.KeyValue n) = ap (λ t. prop_form (label t)) (ap prop_tree (in_prop.rolls-KeyValue n) ∙ prop_tree-KeyValue n)
-prop_at (Open.Method n) = ap (λ t. prop_form (label t)) (ap prop_tree (in_prop.rolls-Method n) ∙ prop_tree-Method n ∙ method_tree-is n)
+pub prop_at : (o : PropForm) → prop_form (label_of (prop_tree (roll-Prop o))) ≡ prop_number o
+prop_at (Open.Shorthand n) = ap (λ t. prop_form (label_of t)) (ap prop_tree (in_prop.rolls-Shorthand n) ∙ prop_tree-Shorthand n)
+prop_at (Open.KeyValue n) = ap (λ t. prop_form (label_of t)) (ap prop_tree (in_prop.rolls-KeyValue n) ∙ prop_tree-KeyValue n)
+prop_at (Open.Method n) = ap (λ t. prop_form (label_of t)) (ap prop_tree (in_prop.rolls-Method n) ∙ prop_tree-Method n ∙ method_tree-is n)
 
 pub prop_apart : (s : Bool) (o p : PropForm) (a b : Prop) → roll-Prop o ≡ a → roll-Prop p ≡ b → (prop_number o == prop_number p) ≡ false → false ≡ same s (prop_tree a) (prop_tree b)
-prop_apart s o p a b at_a at_b = differ prop_form s (prop_tree a) (prop_tree b) (prop_number o) (prop_number p) (ap (λ e. prop_form (label (prop_tree e))) (sym at_a) ∙ prop_at o) (ap (λ e. prop_form (label (prop_tree e))) (sym at_b) ∙ prop_at p)
+prop_apart s o p a b at_a at_b = differ prop_form s (prop_tree a) (prop_tree b) (prop_number o) (prop_number p) (ap (λ e. prop_form (label_of (prop_tree e))) (sym at_a) ∙ prop_at o) (ap (λ e. prop_form (label_of (prop_tree e))) (sym at_b) ∙ prop_at p)
 
 pub other_prop-Shorthand : (s : Bool) (a b : Prop) (x : _) → a ≡ in_prop.Shorthand x → ((y : _) → b ≡ in_prop.Shorthand y → ⊥) → false ≡ same s (prop_tree a) (prop_tree b)
 other_prop-Shorthand s a b x is others = by (out-Prop b) (roll-out-Prop b)
@@ -70,7 +70,7 @@ other_prop-Method s a b x is others = by (out-Prop b) (roll-out-Prop b)
     by (Open.Method y) r = absurd (others y (sym r ∙ in_prop.rolls-Method y))
     by p r = prop_apart s (Open.Method x) p a b (in_prop.rolls-Method x ∙ sym is) r refl
 
--- which item of an object a label is of, by number
+-- which item of an object a label_of is of, by number
 abbrev pub prop_or_spread_form : Label → ℕ
 prop_or_spread_form tree.SpreadRecord = 1
 prop_or_spread_form tree.KeyValue = 2
@@ -85,17 +85,17 @@ abbrev pub prop_or_spread_number : PropOrSpreadForm → ℕ
 prop_or_spread_number (Open.Spread n) = 1
 prop_or_spread_number (Open.Prop n) = 2
 
-prop_form-at : (o : PropForm) → prop_or_spread_form (label (prop_tree (roll-Prop o))) ≡ 2
-prop_form-at (Open.Shorthand n) = ap (λ t. prop_or_spread_form (label t)) (ap prop_tree (in_prop.rolls-Shorthand n) ∙ prop_tree-Shorthand n)
-prop_form-at (Open.KeyValue n) = ap (λ t. prop_or_spread_form (label t)) (ap prop_tree (in_prop.rolls-KeyValue n) ∙ prop_tree-KeyValue n)
-prop_form-at (Open.Method n) = ap (λ t. prop_or_spread_form (label t)) (ap prop_tree (in_prop.rolls-Method n) ∙ prop_tree-Method n ∙ method_tree-is n)
+prop_form-at : (o : PropForm) → prop_or_spread_form (label_of (prop_tree (roll-Prop o))) ≡ 2
+prop_form-at (Open.Shorthand n) = ap (λ t. prop_or_spread_form (label_of t)) (ap prop_tree (in_prop.rolls-Shorthand n) ∙ prop_tree-Shorthand n)
+prop_form-at (Open.KeyValue n) = ap (λ t. prop_or_spread_form (label_of t)) (ap prop_tree (in_prop.rolls-KeyValue n) ∙ prop_tree-KeyValue n)
+prop_form-at (Open.Method n) = ap (λ t. prop_or_spread_form (label_of t)) (ap prop_tree (in_prop.rolls-Method n) ∙ prop_tree-Method n ∙ method_tree-is n)
 
-of_prop : (p : Prop) → prop_or_spread_form (label (prop_tree p)) ≡ 2
-of_prop p = subst (λ e. prop_or_spread_form (label (prop_tree e)) ≡ 2) (roll-out-Prop p) (prop_form-at (out-Prop p))
+of_prop : (p : Prop) → prop_or_spread_form (label_of (prop_tree p)) ≡ 2
+of_prop p = subst (λ e. prop_or_spread_form (label_of (prop_tree e)) ≡ 2) (roll-out-Prop p) (prop_form-at (out-Prop p))
 
-pub prop_or_spread_at : (o : PropOrSpreadForm) → prop_or_spread_form (label (prop_or_spread_tree (roll-PropOrSpread o))) ≡ prop_or_spread_number o
-prop_or_spread_at (Open.Spread n) = ap (λ t. prop_or_spread_form (label t)) (ap prop_or_spread_tree (in_prop_or_spread.rolls-Spread n) ∙ prop_or_spread_tree-Spread n)
-prop_or_spread_at (Open.Prop n) = ap (λ t. prop_or_spread_form (label t)) (ap prop_or_spread_tree (in_prop_or_spread.rolls-Prop n) ∙ prop_or_spread_tree-Prop n) ∙ of_prop n
+pub prop_or_spread_at : (o : PropOrSpreadForm) → prop_or_spread_form (label_of (prop_or_spread_tree (roll-PropOrSpread o))) ≡ prop_or_spread_number o
+prop_or_spread_at (Open.Spread n) = ap (λ t. prop_or_spread_form (label_of t)) (ap prop_or_spread_tree (in_prop_or_spread.rolls-Spread n) ∙ prop_or_spread_tree-Spread n)
+prop_or_spread_at (Open.Prop n) = ap (λ t. prop_or_spread_form (label_of t)) (ap prop_or_spread_tree (in_prop_or_spread.rolls-Prop n) ∙ prop_or_spread_tree-Prop n) ∙ of_prop n
 
 pub prop_or_spread_apart : (s : Bool) (o p : PropOrSpreadForm) (a b : PropOrSpread) → roll-PropOrSpread o ≡ a → roll-PropOrSpread p ≡ b → (prop_or_spread_number o == prop_or_spread_number p) ≡ false → false ≡ same s (prop_or_spread_tree a) (prop_or_spread_tree b)
-prop_or_spread_apart s o p a b at_a at_b = differ prop_or_spread_form s (prop_or_spread_tree a) (prop_or_spread_tree b) (prop_or_spread_number o) (prop_or_spread_number p) (ap (λ e. prop_or_spread_form (label (prop_or_spread_tree e))) (sym at_a) ∙ prop_or_spread_at o) (ap (λ e. prop_or_spread_form (label (prop_or_spread_tree e))) (sym at_b) ∙ prop_or_spread_at p)
+prop_or_spread_apart s o p a b at_a at_b = differ prop_or_spread_form s (prop_or_spread_tree a) (prop_or_spread_tree b) (prop_or_spread_number o) (prop_or_spread_number p) (ap (λ e. prop_or_spread_form (label_of (prop_or_spread_tree e))) (sym at_a) ∙ prop_or_spread_at o) (ap (λ e. prop_or_spread_form (label_of (prop_or_spread_tree e))) (sym at_b) ∙ prop_or_spread_at p)

@@ -2,10 +2,10 @@
 use Rattle.std.proofs.Common.{◌≡◌, refl, sym, ap, ◌∙◌, Bool, false, ◌==◌, subst}
 use Rattle.std.specs.Prelude.{ℕ}
 use Rattle.swc_ast.specs.Tree as tree
-use Rattle.swc_ast.specs.Tree.{Label, Tree}
+use Rattle.swc_ast.specs.Tree.{Label, Tree, label_of}
 use Rattle.swc_ast.specs.Same.{same}
 use Rattle.swc_ast.specs.Views.{decl_tree, stmt_tree}
-use Rattle.swc_ast.proofs.Labels.{label, differ}
+use Rattle.swc_ast.proofs.Labels.{differ}
 use Rattle.swc_ast.proofs.Equations.{stmt_tree-Block, stmt_tree-Empty, stmt_tree-Return, stmt_tree-Labeled, stmt_tree-Break, stmt_tree-Continue, stmt_tree-If, stmt_tree-Switch, stmt_tree-Throw, stmt_tree-Try, stmt_tree-While, stmt_tree-DoWhile, stmt_tree-For, stmt_tree-Decl, stmt_tree-Expr, if_tree-is, switch_tree-is, for_tree-is, decl_tree-Fn, decl_tree-Var}
 use Rattle.swc_ast.specs.declared.declarations.Decl.TheViews.{roll-Stmt, out-Stmt, roll-out-Stmt, roll-Decl, out-Decl, roll-out-Decl}
 use Rattle.swc_ast.specs.declared.declarations.Decl.TheVariants as in_decl
@@ -29,7 +29,7 @@ use Rattle.swc_ast.specs.declared.statements.Stmt.{Stmt}
 abbrev DeclForm : Type 0
 DeclForm = Open.Decl-F Decl BlockStmtOrExpr Expr Prop PropOrSpread Stmt Function ArrowExpr MethodProp ForStmt IfStmt SwitchCase SwitchStmt WhileStmt
 
--- which statement a label is of, by number
+-- which statement a label_of is of, by number
 abbrev pub stmt_form : Label → ℕ
 stmt_form tree.Block = 1
 stmt_form tree.Empty = 2
@@ -69,32 +69,32 @@ stmt_number (Open.For n) = 13
 stmt_number (Open.Decl n) = 14
 stmt_number (Open.Stmt::Expr n) = 15
 
-decl_form-at : (o : DeclForm) → stmt_form (label (decl_tree (roll-Decl o))) ≡ 14
-decl_form-at (Open.Decl::Fn n) = ap (λ t. stmt_form (label t)) (ap decl_tree (in_decl.rolls-Fn n) ∙ decl_tree-Fn n)
-decl_form-at (Open.Var n) = ap (λ t. stmt_form (label t)) (ap decl_tree (in_decl.rolls-Var n) ∙ decl_tree-Var n)
+decl_form-at : (o : DeclForm) → stmt_form (label_of (decl_tree (roll-Decl o))) ≡ 14
+decl_form-at (Open.Decl::Fn n) = ap (λ t. stmt_form (label_of t)) (ap decl_tree (in_decl.rolls-Fn n) ∙ decl_tree-Fn n)
+decl_form-at (Open.Var n) = ap (λ t. stmt_form (label_of t)) (ap decl_tree (in_decl.rolls-Var n) ∙ decl_tree-Var n)
 
-of_decl : (d : Decl) → stmt_form (label (decl_tree d)) ≡ 14
-of_decl d = subst (λ e. stmt_form (label (decl_tree e)) ≡ 14) (roll-out-Decl d) (decl_form-at (out-Decl d))
+of_decl : (d : Decl) → stmt_form (label_of (decl_tree d)) ≡ 14
+of_decl d = subst (λ e. stmt_form (label_of (decl_tree e)) ≡ 14) (roll-out-Decl d) (decl_form-at (out-Decl d))
 
-pub stmt_at : (o : StmtForm) → stmt_form (label (stmt_tree (roll-Stmt o))) ≡ stmt_number o
-stmt_at (Open.Block n) = ap (λ t. stmt_form (label t)) (ap stmt_tree (in_stmt.rolls-Block n) ∙ stmt_tree-Block n)
-stmt_at (Open.Empty n) = ap (λ t. stmt_form (label t)) (ap stmt_tree (in_stmt.rolls-Empty n) ∙ stmt_tree-Empty n)
-stmt_at (Open.Return n) = ap (λ t. stmt_form (label t)) (ap stmt_tree (in_stmt.rolls-Return n) ∙ stmt_tree-Return n)
-stmt_at (Open.Labeled n) = ap (λ t. stmt_form (label t)) (ap stmt_tree (in_stmt.rolls-Labeled n) ∙ stmt_tree-Labeled n)
-stmt_at (Open.Break n) = ap (λ t. stmt_form (label t)) (ap stmt_tree (in_stmt.rolls-Break n) ∙ stmt_tree-Break n)
-stmt_at (Open.Continue n) = ap (λ t. stmt_form (label t)) (ap stmt_tree (in_stmt.rolls-Continue n) ∙ stmt_tree-Continue n)
-stmt_at (Open.If n) = ap (λ t. stmt_form (label t)) (ap stmt_tree (in_stmt.rolls-If n) ∙ stmt_tree-If n ∙ if_tree-is n)
-stmt_at (Open.Switch n) = ap (λ t. stmt_form (label t)) (ap stmt_tree (in_stmt.rolls-Switch n) ∙ stmt_tree-Switch n ∙ switch_tree-is n)
-stmt_at (Open.Throw n) = ap (λ t. stmt_form (label t)) (ap stmt_tree (in_stmt.rolls-Throw n) ∙ stmt_tree-Throw n)
-stmt_at (Open.Try n) = ap (λ t. stmt_form (label t)) (ap stmt_tree (in_stmt.rolls-Try n) ∙ stmt_tree-Try n)
-stmt_at (Open.While n) = ap (λ t. stmt_form (label t)) (ap stmt_tree (in_stmt.rolls-While n) ∙ stmt_tree-While n)
-stmt_at (Open.DoWhile n) = ap (λ t. stmt_form (label t)) (ap stmt_tree (in_stmt.rolls-DoWhile n) ∙ stmt_tree-DoWhile n)
-stmt_at (Open.For n) = ap (λ t. stmt_form (label t)) (ap stmt_tree (in_stmt.rolls-For n) ∙ stmt_tree-For n ∙ for_tree-is n)
-stmt_at (Open.Decl n) = ap (λ t. stmt_form (label t)) (ap stmt_tree (in_stmt.rolls-Decl n) ∙ stmt_tree-Decl n) ∙ of_decl n
-stmt_at (Open.Stmt::Expr n) = ap (λ t. stmt_form (label t)) (ap stmt_tree (in_stmt.rolls-Expr n) ∙ stmt_tree-Expr n)
+pub stmt_at : (o : StmtForm) → stmt_form (label_of (stmt_tree (roll-Stmt o))) ≡ stmt_number o
+stmt_at (Open.Block n) = ap (λ t. stmt_form (label_of t)) (ap stmt_tree (in_stmt.rolls-Block n) ∙ stmt_tree-Block n)
+stmt_at (Open.Empty n) = ap (λ t. stmt_form (label_of t)) (ap stmt_tree (in_stmt.rolls-Empty n) ∙ stmt_tree-Empty n)
+stmt_at (Open.Return n) = ap (λ t. stmt_form (label_of t)) (ap stmt_tree (in_stmt.rolls-Return n) ∙ stmt_tree-Return n)
+stmt_at (Open.Labeled n) = ap (λ t. stmt_form (label_of t)) (ap stmt_tree (in_stmt.rolls-Labeled n) ∙ stmt_tree-Labeled n)
+stmt_at (Open.Break n) = ap (λ t. stmt_form (label_of t)) (ap stmt_tree (in_stmt.rolls-Break n) ∙ stmt_tree-Break n)
+stmt_at (Open.Continue n) = ap (λ t. stmt_form (label_of t)) (ap stmt_tree (in_stmt.rolls-Continue n) ∙ stmt_tree-Continue n)
+stmt_at (Open.If n) = ap (λ t. stmt_form (label_of t)) (ap stmt_tree (in_stmt.rolls-If n) ∙ stmt_tree-If n ∙ if_tree-is n)
+stmt_at (Open.Switch n) = ap (λ t. stmt_form (label_of t)) (ap stmt_tree (in_stmt.rolls-Switch n) ∙ stmt_tree-Switch n ∙ switch_tree-is n)
+stmt_at (Open.Throw n) = ap (λ t. stmt_form (label_of t)) (ap stmt_tree (in_stmt.rolls-Throw n) ∙ stmt_tree-Throw n)
+stmt_at (Open.Try n) = ap (λ t. stmt_form (label_of t)) (ap stmt_tree (in_stmt.rolls-Try n) ∙ stmt_tree-Try n)
+stmt_at (Open.While n) = ap (λ t. stmt_form (label_of t)) (ap stmt_tree (in_stmt.rolls-While n) ∙ stmt_tree-While n)
+stmt_at (Open.DoWhile n) = ap (λ t. stmt_form (label_of t)) (ap stmt_tree (in_stmt.rolls-DoWhile n) ∙ stmt_tree-DoWhile n)
+stmt_at (Open.For n) = ap (λ t. stmt_form (label_of t)) (ap stmt_tree (in_stmt.rolls-For n) ∙ stmt_tree-For n ∙ for_tree-is n)
+stmt_at (Open.Decl n) = ap (λ t. stmt_form (label_of t)) (ap stmt_tree (in_stmt.rolls-Decl n) ∙ stmt_tree-Decl n) ∙ of_decl n
+stmt_at (Open.Stmt::Expr n) = ap (λ t. stmt_form (label_of t)) (ap stmt_tree (in_stmt.rolls-Expr n) ∙ stmt_tree-Expr n)
 
 pub stmt_apart : (s : Bool) (o p : StmtForm) (a b : Stmt) → roll-Stmt o ≡ a → roll-Stmt p ≡ b → (stmt_number o == stmt_number p) ≡ false → false ≡ same s (stmt_tree a) (stmt_tree b)
-stmt_apart s o p a b at_a at_b = differ stmt_form s (stmt_tree a) (stmt_tree b) (stmt_number o) (stmt_number p) (ap (λ e. stmt_form (label (stmt_tree e))) (sym at_a) ∙ stmt_at o) (ap (λ e. stmt_form (label (stmt_tree e))) (sym at_b) ∙ stmt_at p)
+stmt_apart s o p a b at_a at_b = differ stmt_form s (stmt_tree a) (stmt_tree b) (stmt_number o) (stmt_number p) (ap (λ e. stmt_form (label_of (stmt_tree e))) (sym at_a) ∙ stmt_at o) (ap (λ e. stmt_form (label_of (stmt_tree e))) (sym at_b) ∙ stmt_at p)
 
 pub other_stmt-Block : (s : Bool) (a b : Stmt) (x : _) → a ≡ in_stmt.Block x → ((y : _) → b ≡ in_stmt.Block y → ⊥) → false ≡ same s (stmt_tree a) (stmt_tree b)
 other_stmt-Block s a b x is others = by (out-Stmt b) (roll-out-Stmt b)

@@ -2,7 +2,7 @@
 use Rattle.std.proofs.Common.{◌≡◌, refl, sym, ap, ◌∙◌, Bool, true, false, ◌&&◌, ◌==◌, List, [], ◌∷◌, subst}
 use Rattle.std.specs.Prelude.{ℕ, bytes_eq, if◌then◌else◌}
 use Rattle.swc_ast.specs.Tree as tree
-use Rattle.swc_ast.specs.Tree.{Label, Name, Text, same_name, Tree, node, Forest, ε, ◌⊳◌}
+use Rattle.swc_ast.specs.Tree.{Label, Name, Text, same_name, Tree, node, Forest, ε, ◌⊳◌, label_of}
 use Rattle.swc_ast.specs.Parts.{ident_name, word_text}
 use Rattle.swc_ast.specs.Expressions.{call_node, is_eval, member_node}
 use Rattle.swc_ast.specs.Same.{same, same_forest, same_label, same_spans}
@@ -10,7 +10,7 @@ use Rattle.swc_ast.specs.SameLaws.{impossible}
 use Rattle.swc_ast.specs.Views.{expr_tree}
 use Rattle.swc_ast.proofs.ApartExpressions.{ExprForm, expr_form, expr_at}
 use Rattle.swc_ast.proofs.Equations.{expr_tree-Member, expr_tree-Ident}
-use Rattle.swc_ast.proofs.Labels.{label, differ}
+use Rattle.swc_ast.proofs.Labels.{differ}
 use Rattle.swc_ast.proofs.SameParts.{first_span, two-at}
 use Rattle.swc_ast.proofs.Truths.{never-then}
 use Rattle.swc_ast.specs.declared.Span.{Span}
@@ -21,7 +21,7 @@ use Rattle.swc_ast.specs.declared.expressions.Expr.TheVariants as in_expr
 use Rattle.swc_ast.specs.declared.expressions.MemberProp.{MemberProp}
 use Rattle.swc_ast.specs.declared.expressions.MemberProp.TheVariants as prop
 
--- which part of its callee a call's label takes
+-- which part of its callee a call's label_of takes
 abbrev pub callee_form : Label → ℕ
 callee_form (tree.Dot k) = 1
 callee_form tree.Index = 2
@@ -33,7 +33,7 @@ pub data Callee : Tree → Type 0 where
   dot : (k : Text) (ss : List Span) (t : Tree) → Callee (node (tree.Dot k) ss (t ⊳ ε))
   index : (ss : List Span) (t u : Tree) → Callee (node tree.Index ss (t ⊳ u ⊳ ε))
   eval : (x : Name) (ss : List Span) → callee_form (tree.Read x) ≡ 3 → ((s : Span) (args : Forest) → call_node s (node (tree.Read x) ss ε) args ≡ node (tree.CallEval x) (s ∷ ss) args) → Callee (node (tree.Read x) ss ε)
-  plain : (t : Tree) → callee_form (label t) ≡ 0 → ((s : Span) (args : Forest) → call_node s t args ≡ node tree.Call (s ∷ []) (t ⊳ args)) → Callee t
+  plain : (t : Tree) → callee_form (label_of t) ≡ 0 → ((s : Span) (args : Forest) → call_node s t args ≡ node tree.Call (s ∷ []) (t ⊳ args)) → Callee t
 
 named : (x : Name) (ss : List Span) → Callee (node (tree.Read x) ss ε)
 unfolding call_node
@@ -43,20 +43,20 @@ named x ss = by (is_eval x) refl
     by true is = eval x ss (ap (λ e. if e then 3 else 0) is) (λ s args. ap (λ e. if e then node (tree.CallEval x) (s ∷ ss) args else node tree.Call (s ∷ []) (node (tree.Read x) ss ε ⊳ args)) is)
     by false is = plain (node (tree.Read x) ss ε) (ap (λ e. if e then 3 else 0) is) (λ s args. ap (λ e. if e then node (tree.CallEval x) (s ∷ ss) args else node tree.Call (s ∷ []) (node (tree.Read x) ss ε ⊳ args)) is)
 
-other_form : (t : Tree) → (9 == expr_form (label t)) ≡ false → (14 == expr_form (label t)) ≡ false → callee_form (label t) ≡ 0
+other_form : (t : Tree) → (9 == expr_form (label_of t)) ≡ false → (14 == expr_form (label_of t)) ≡ false → callee_form (label_of t) ≡ 0
 other_form (node (tree.Dot k) ss cs) p q = impossible (sym p)
 other_form (node tree.Index ss cs) p q = impossible (sym p)
 other_form (node (tree.Read x) ss cs) p q = impossible (sym q)
 other_form (node _ ss cs) p q = refl
 
-other_call : (t : Tree) → (9 == expr_form (label t)) ≡ false → (14 == expr_form (label t)) ≡ false → (s : Span) (args : Forest) → call_node s t args ≡ node tree.Call (s ∷ []) (t ⊳ args)
+other_call : (t : Tree) → (9 == expr_form (label_of t)) ≡ false → (14 == expr_form (label_of t)) ≡ false → (s : Span) (args : Forest) → call_node s t args ≡ node tree.Call (s ∷ []) (t ⊳ args)
 unfolding call_node
 other_call (node (tree.Dot k) ss cs) p q s args = impossible (sym p)
 other_call (node tree.Index ss cs) p q s args = impossible (sym p)
 other_call (node (tree.Read x) ss cs) p q s args = impossible (sym q)
 other_call (node _ ss cs) p q s args = refl
 
-other : (t : Tree) → (9 == expr_form (label t)) ≡ false → (14 == expr_form (label t)) ≡ false → Callee t
+other : (t : Tree) → (9 == expr_form (label_of t)) ≡ false → (14 == expr_form (label_of t)) ≡ false → Callee t
 other t p q = plain t (other_form t p q) (other_call t p q)
 
 member : (s : Span) (o : Expr) (p : MemberProp Expr) → Callee (member_node expr_tree s o p)

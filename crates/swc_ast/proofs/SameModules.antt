@@ -1,7 +1,7 @@
 -- What the comparison of parts says of imports, exports and items.
 use Rattle.std.proofs.Common.{◌≡◌, refl, sym, ap, ◌∙◌, Bool, true, false, ◌&&◌, ◌==◌, [], ◌∷◌}
 use Rattle.swc_ast.specs.Tree as tree
-use Rattle.swc_ast.specs.Tree.{Label, Name}
+use Rattle.swc_ast.specs.Tree.{Label, Name, label_of}
 use Rattle.swc_ast.specs.Expressions.{FunctionTrees, function_node}
 use Rattle.swc_ast.specs.Parts.{option_ident_name, option_ident_spans}
 use Rattle.std.specs.Prelude.{Option}
@@ -10,7 +10,7 @@ use Rattle.swc_ast.specs.Modules.{import_specifier_tree, module_decl_tree}
 use Rattle.swc_ast.specs.Same.{same, same_label, same_option, same_spans, same_forest}
 use Rattle.swc_ast.specs.Views.{stmt_tree}
 use Rattle.swc_ast.proofs.ApartStatements.{StmtForm, stmt_form, stmt_at, stmt_number}
-use Rattle.swc_ast.proofs.Labels.{label, differ}
+use Rattle.swc_ast.proofs.Labels.{differ}
 use Rattle.swc_ast.proofs.SameParts.{first_span}
 use Rattle.swc_ast.specs.declared.Span.{Span}
 use Rattle.swc_ast.specs.declared.names.Ident.{Ident}
@@ -83,7 +83,7 @@ other_decl-ExportDefaultExpr s a (decls.ExportDefaultDecl y) x is others = ap (�
 other_decl-ExportDefaultExpr s a (decls.ExportDefaultExpr y) x is others = absurd (others y refl)
 
 -- imports and exports are no statements
-no_stmt_form : (d : ModuleDecl) → stmt_form (label (module_decl_tree d)) ≡ 0
+no_stmt_form : (d : ModuleDecl) → stmt_form (label_of (module_decl_tree d)) ≡ 0
 no_stmt_form (decls.Import n) = refl
 no_stmt_form (decls.ExportDecl n) = refl
 no_stmt_form (decls.ExportNamed n) = refl
@@ -98,8 +98,8 @@ some_stmt-2 : (o : StmtForm) → (stmt_number o == 0) ≡ false
 some_stmt-2 (Open.Block n) = refl
 some_stmt-2 o = refl
 
-of_stmt : (x : Stmt) → stmt_form (label (stmt_tree x)) ≡ stmt_number (out-Stmt x)
-of_stmt x = ap (λ e. stmt_form (label (stmt_tree e))) (sym (roll-out-Stmt x)) ∙ stmt_at (out-Stmt x)
+of_stmt : (x : Stmt) → stmt_form (label_of (stmt_tree x)) ≡ stmt_number (out-Stmt x)
+of_stmt x = ap (λ e. stmt_form (label_of (stmt_tree e))) (sym (roll-out-Stmt x)) ∙ stmt_at (out-Stmt x)
 
 pub decl-stmt : (s : Bool) (d : ModuleDecl) (x : Stmt) → false ≡ same s (module_decl_tree d) (stmt_tree x)
 decl-stmt s d x = differ stmt_form s (module_decl_tree d) (stmt_tree x) 0 (stmt_number (out-Stmt x)) (no_stmt_form d) (of_stmt x) (some_stmt (out-Stmt x))

@@ -1,13 +1,12 @@
 -- What may stand on the left of an assignment, by its variant.
 use Rattle.std.proofs.Common.{◌≡◌, refl, sym, ap, ◌∙◌, true, false, ◌==◌}
 use Rattle.swc_ast.specs.Tree as tree
-use Rattle.swc_ast.specs.Tree.{Tree, node}
+use Rattle.swc_ast.specs.Tree.{Tree, node, label_of}
 use Rattle.swc_ast.specs.Expressions.{is_target, member_tree, member_node}
 use Rattle.swc_ast.specs.Parts.{ident_tree}
 use Rattle.swc_ast.specs.SameLaws.{impossible}
 use Rattle.swc_ast.specs.Views.{expr_tree}
 use Rattle.swc_ast.proofs.ApartExpressions.{ExprForm, expr_form, expr_at}
-use Rattle.swc_ast.proofs.Labels.{label}
 use Rattle.swc_ast.proofs.Places.{at_expr-Ident, at_expr-Member}
 use Rattle.swc_ast.specs.declared.Span.{Span}
 use Rattle.swc_ast.specs.declared.names.Ident.{Ident}
@@ -29,7 +28,7 @@ member_target e n is = ap is_target (at_expr-Member e n is) ∙ member n.span n.
 pub name_target : (e : Expr) (n : Ident) → e ≡ in_expr.Ident n → is_target (expr_tree e) ≡ true
 name_target e n is = ap is_target (at_expr-Ident e n is)
 
-no_target : (t : Tree) → (9 == expr_form (label t)) ≡ false → (14 == expr_form (label t)) ≡ false → is_target t ≡ false
+no_target : (t : Tree) → (9 == expr_form (label_of t)) ≡ false → (14 == expr_form (label_of t)) ≡ false → is_target t ≡ false
 no_target (node (tree.Dot k) ss cs) p q = impossible (sym p)
 no_target (node tree.Index ss cs) p q = impossible (sym p)
 no_target (node (tree.Read x) ss cs) p q = impossible (sym q)

@@ -3,14 +3,13 @@ use Rattle.std.proofs.Common.{◌≡◌, ℕ, Bool, true, false, List, Option, S
 use Rattle.std.specs.declared.alloc.AllocError.{AllocError}
 use Rattle.std.specs.declared.result.Result.{Result}
 use Rattle.swc_ast.specs.Parts.{list_trees}
-use Rattle.swc_ast.specs.Tree.{Tree}
+use Rattle.swc_ast.specs.Tree.{Tree, label_of}
 use Rattle.swc_ast.specs.Views.{stmt_tree}
 use Rattle.swc_ast.specs.declared.statements.Stmt.{Stmt}
 use Rattle.swc_ast.specs.Weight.{is_list}
-use Rattle.swc_static.specs.Names.{label_of}
-use Rattle.swc_walk.specs.Lists.{ListBecame}
-use Rattle.swc_walk.specs.declared.rules.ListPlace.{ListPlace}
-use Rattle.swc_walk.specs.declared.rules.ListPlace.TheVariants as place
+use Rattle.tree_walk.specs.Lists.{ListBecame}
+use Rattle.tree_walk.specs.declared.rules.ListPlace.{ListPlace}
+use Rattle.tree_walk.specs.declared.rules.ListPlace.TheVariants as place
 use Rattle.branch_lists.specs.Tidy.{ListTidied, nothing_kept}
 use Rattle.branch_rules.specs.Removes.{Removes, followed, of_statement, remove_pass}
 use Rattle.branch_rules.specs.Turns.{Turns, as_it_was, by_rule}

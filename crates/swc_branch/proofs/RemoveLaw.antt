@@ -5,36 +5,35 @@ use Rattle.swc_ast.specs.Modules.{module_tree, script_tree}
 use Rattle.swc_ast.specs.Redex.{is_delete}
 use Rattle.swc_ast.specs.Resolved.{IsResolved}
 use Rattle.swc_ast.specs.Run.{Same}
-use Rattle.swc_ast.specs.Tree.{Unary, Tree, node, Forest, bare, ε, ◌⊳◌}
+use Rattle.swc_ast.specs.Tree.{Unary, Tree, node, Forest, bare, ε, ◌⊳◌, label_of}
 use Rattle.swc_ast.specs.Weight.{weight}
 use Rattle.swc_ast.specs.declared.UnaryOp.TheVariants.{Delete}
 use Rattle.swc_ast.specs.declared.modules.Module.{Module}
 use Rattle.swc_ast.specs.declared.modules.Script.{Script}
-use Rattle.swc_static.specs.Free.{has_kind}
-use Rattle.swc_static.specs.Keeps.{Keeps}
-use Rattle.swc_static.specs.Lighter.{Lowers, is_settled}
-use Rattle.swc_static.specs.Names.{label_of}
-use Rattle.swc_static.specs.Shaped.{IsShaped}
-use Rattle.swc_static.specs.Step.{Step}
-use Rattle.swc_static.proofs.Bare.{weight_bare}
-use Rattle.swc_static.proofs.Free.{delete_free}
-use Rattle.swc_static.proofs.Kept.{walk_keeps}
-use Rattle.swc_static.proofs.ShapedViews.{module_shaped, script_shaped}
-use Rattle.swc_static.proofs.Vars.{walk_loses_none}
-use Rattle.swc_static.proofs.Walked.{leaves_walks}
-use Rattle.swc_walk.specs.Walks.{Whole}
-use Rattle.swc_walk.proofs.Walked.{whole_same}
-use Rattle.swc_kept.specs.Finished.{Does, Finished}
-use Rattle.swc_kept.proofs.Dying.{dying_same}
-use Rattle.swc_kept.proofs.Finished.{whole_leaves}
-use Rattle.swc_kept.proofs.Static.{whole_resolved, whole_core, whole_falls, whole_free}
+use Rattle.static_proofs.specs.Free.{has_kind}
+use Rattle.static_proofs.specs.Keeps.{Keeps}
+use Rattle.static_proofs.specs.Lighter.{Lowers, is_settled}
+use Rattle.static_proofs.specs.Shaped.{IsShaped}
+use Rattle.static_proofs.specs.Step.{Step}
+use Rattle.static_proofs.proofs.Bare.{weight_bare}
+use Rattle.static_proofs.proofs.Free.{delete_free}
+use Rattle.static_proofs.proofs.Kept.{walk_keeps}
+use Rattle.static_proofs.proofs.ShapedViews.{module_shaped, script_shaped}
+use Rattle.static_proofs.proofs.Vars.{walk_loses_none}
+use Rattle.static_proofs.proofs.Walked.{leaves_walks}
+use Rattle.tree_walk.specs.Walks.{Whole}
+use Rattle.tree_walk.proofs.Walked.{whole_same}
+use Rattle.walk_proofs.specs.Finished.{Does, Finished}
+use Rattle.walk_proofs.proofs.Dying.{dying_same}
+use Rattle.walk_proofs.proofs.Finished.{whole_leaves}
+use Rattle.walk_proofs.proofs.Static.{whole_resolved, whole_core, whole_falls, whole_free}
 use Rattle.swc_pass.specs.Pass.{SameBare, TellsChange}
 use Rattle.branch_rules.specs.Removes.{remove_pass}
-use Rattle.branch_steps.specs.Laws.{left_redex}
-use Rattle.branch_steps.proofs.Dying.{removes_die}
-use Rattle.branch_steps.proofs.Owes.{does_owe}
-use Rattle.branch_steps.proofs.Resting.{finished_free, finished_settled, valid_free}
-use Rattle.branch_steps.proofs.VarsStay.{does_lose_none}
+use Rattle.branch_proofs.specs.Laws.{left_redex}
+use Rattle.branch_proofs.proofs.Dying.{removes_die}
+use Rattle.branch_proofs.proofs.Owes.{does_owe}
+use Rattle.branch_proofs.proofs.Resting.{finished_free, finished_settled, valid_free}
+use Rattle.branch_proofs.proofs.VarsStay.{does_lose_none}
 use Rattle.swc_branch.specs.Removed.{Removed}
 
 -- what each step owes

@@ -3,7 +3,7 @@ use Rattle.std.proofs.Common.{◌≡◌, Bool, true, false, not, ◌&&◌, refl,
 use Rattle.std.proofs.lemmas.Bool.{false≢true, true≢false}
 use Rattle.swc_ast.specs.Modules.{item_tree}
 use Rattle.swc_ast.specs.Redex.{own_redex}
-use Rattle.swc_ast.specs.Tree.{Label, Unary, Binary, Cond, If, For, While, ExprStmt, Switch, Try, Tree, node, Forest}
+use Rattle.swc_ast.specs.Tree.{Label, Unary, Binary, Cond, If, For, While, ExprStmt, Switch, Try, Tree, node, Forest, label_of}
 use Rattle.swc_ast.specs.Valid.{good_shape}
 use Rattle.swc_ast.specs.Views.{decl_tree, expr_tree}
 use Rattle.swc_ast.specs.declared.declarations.Decl.{Decl}
@@ -27,10 +27,9 @@ use Rattle.swc_ast.specs.declared.statements.SwitchCase.{SwitchCase}
 use Rattle.swc_ast.specs.declared.statements.SwitchStmt.{SwitchStmt}
 use Rattle.swc_ast.specs.declared.statements.WhileStmt.{WhileStmt}
 use Rattle.swc_ast.proofs.Equations.{decl_tree-Fn, decl_tree-Var}
-use Rattle.swc_static.specs.Drawn.{is_expression}
-use Rattle.swc_static.specs.Free.{is_folded}
-use Rattle.swc_static.specs.Names.{label_of}
-use Rattle.pass_steps.proofs.ExprTrees.{is_an_expression}
+use Rattle.swc_ast.specs.Labels.{is_expression}
+use Rattle.static_proofs.specs.Free.{is_folded}
+use Rattle.pass_proofs.proofs.ExprTrees.{is_an_expression}
 use Rattle.branch_rules.specs.Removes.{Rests}
 
 -- labels that a rule of statements is about

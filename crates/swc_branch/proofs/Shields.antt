@@ -3,28 +3,27 @@ use Rattle.std.proofs.Common.{◌≡◌, ℕ, zero, suc, pos, negsuc, ◌<◌, �
 use Rattle.std.proofs.lemmas.Bool.{false≢true, true≢false}
 use Rattle.swc_ast.specs.Scope.{joined}
 use Rattle.swc_ast.specs.Tree as tree
-use Rattle.swc_ast.specs.Tree.{Seq, Tree, node, Forest, ε, ◌⊳◌}
+use Rattle.swc_ast.specs.Tree.{Seq, Tree, node, Forest, ε, ◌⊳◌, label_of}
 use Rattle.swc_ast.specs.Views.{expr_tree}
 use Rattle.swc_ast.specs.Weight.{own_weight, weight, weight_all}
 use Rattle.swc_ast.specs.declared.expressions.Expr.{Expr}
 use Rattle.swc_ast.specs.declared.Span.{Span}
-use Rattle.swc_static.specs.Drawn.{is_expression}
-use Rattle.swc_static.specs.Names.{label_of}
-use Rattle.swc_static.proofs.Drawn.{weight_joined}
+use Rattle.swc_ast.specs.Labels.{is_expression}
+use Rattle.static_proofs.proofs.Drawn.{weight_joined}
 use Rattle.swc_utils.specs.Pure.{pure}
-use Rattle.swc_walk.specs.Parts.{stands_alone}
-use Rattle.swc_walk.specs.Walks.{Fits, Stepped}
-use Rattle.swc_walk.specs.declared.rules.Place.{Place}
-use Rattle.swc_walk.specs.declared.rules.Place.TheVariants as place
-use Rattle.swc_walk.proofs.NodeKinds.{alone_fits}
+use Rattle.tree_walk.specs.Parts.{stands_alone}
+use Rattle.tree_walk.specs.Walks.{Fits, Stepped}
+use Rattle.tree_walk.specs.declared.rules.Place.{Place}
+use Rattle.tree_walk.specs.declared.rules.Place.TheVariants as place
+use Rattle.tree_walk.proofs.NodeKinds.{alone_fits}
 use Rattle.pass_rules.specs.Leaves.{guarded}
-use Rattle.pass_steps.proofs.ExprTrees.{is_an_expression}
+use Rattle.pass_proofs.proofs.ExprTrees.{is_an_expression}
 use Rattle.pass_places.specs.Dropped.{MayDrop, dropped}
 use Rattle.pass_places.specs.Places.{nowhere, shielded}
 use Rattle.branch_rules.specs.Expressions.{ExpressionStep, front, itself, same_arms, in_guard, Becomes}
 use Rattle.branch_rules.specs.Ignored.{Opens, operand, sides, items, properties, texts, arguments, new_arguments, Ignores, stays, goes, itself as itself_goes, opened, sequence, right_goes, right_left, right_runs, right_skipped, never_nullish, always_nullish, items_left, properties_left, arm_runs, arms_go, second_goes, first_goes, arms_left, IgnoresAll, one_goes, one_left, one_opens}
 use Rattle.branch_rules.specs.Removes.{Removes, of_expression, of_default, remove_pass}
-use Rattle.branch_steps.proofs.IgnoredLight.{ignores_light, ignores_all_light}
+use Rattle.branch_proofs.proofs.IgnoredLight.{ignores_light, ignores_all_light}
 use Rattle.swc_branch.specs.Places.{is_light, are_cramped, is_cramped}
 
 -- what is not light and of which nothing is left weighs more than the literal 0

@@ -1,8 +1,8 @@
 -- Sequences that stay, as what would take their place may be no lighter.
 use Rattle.std.specs.Prelude.{Bool, true, false, not, ◌&&◌, pos, zero}
 use Rattle.swc_ast.specs.Tree.{NumLit, Seq, Tree, node, Forest, ε, ◌⊳◌}
-use Rattle.swc_walk.specs.Parts.{stands_alone}
-use Rattle.swc_walk.specs.declared.rules.Place.{Place}
+use Rattle.tree_walk.specs.Parts.{stands_alone}
+use Rattle.tree_walk.specs.declared.rules.Place.{Place}
 
 -- the literal 0, or a sequence
 abbrev pub is_light : Tree → Bool

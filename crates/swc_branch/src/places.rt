@@ -5,7 +5,7 @@ ghost use Rattle.swc_ast.specs.Views.{expr_tree};
 ghost use Rattle.swc_branch.specs.Places as places;
 
 use swc_ast::{Expr, Lit};
-use swc_walk::{Place, fits};
+use tree_walk::{Place, fits};
 
 /// Whether an expression is the literal 0 or a sequence, which may weigh no more than that.
 #[tactic(auto, using(swc_ast::proofs::Equations::forms))]

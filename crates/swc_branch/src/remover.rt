@@ -10,7 +10,7 @@ use std::alloc::Global;
 use swc_ast::{Mark, Module, PassError, Script, SyntaxContext};
 use swc_pass::{CompilerPass, Pass, Repeated};
 use swc_utils::ExprCtx;
-use swc_walk::{walk_module, walk_script};
+use tree_walk::{walk_module, walk_script};
 
 /// A pass that removes dead branches, in one walk, children first: conditions and loops of known truth, `switch` on a known
 /// value, statements that do nothing, statements behind one that ends its list, and expressions without effects whose values

@@ -4,10 +4,10 @@ ghost use Rattle.swc_ast.specs.Expressions.{param_tree};
 ghost use Rattle.swc_ast.specs.Redex as redex;
 ghost use Rattle.swc_ast.specs.Views.{expr_tree, stmt_tree};
 ghost use Rattle.swc_ast.specs.Weight.{is_list};
-ghost use Rattle.swc_static.specs.Names.{label_of};
+ghost use Rattle.swc_ast.specs.Tree.{label_of};
 ghost use Rattle.swc_utils.specs.Globals.{unresolved};
 ghost use Rattle.swc_ast.specs.declared.statements.Stmt.{size-Stmt};
-ghost use Rattle.swc_walk.specs.Walks.{Became, Opened, Stepped};
+ghost use Rattle.tree_walk.specs.Walks.{Became, Opened, Stepped};
 ghost use Rattle.pass_places.specs.Dropped.{has_void_default};
 ghost use Rattle.branch_rules.specs.Removes.{remove_pass};
 
@@ -19,7 +19,7 @@ use pass_places::{drop_default, is_delete, shielded};
 use std::alloc::{AllocError, Global};
 use swc_ast::{Expr, ModuleItem, Pat, Stmt};
 use swc_utils::ExprCtx;
-use swc_walk::{ListPlace, Place, Rules};
+use tree_walk::{ListPlace, Place, Rules};
 
 /// The rules, for a module whose unresolved names are those of a context.
 #[derive(Drop)]

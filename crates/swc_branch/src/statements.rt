@@ -1,12 +1,11 @@
 //! The rules of statements.
 ghost use Rattle.std.specs.Prelude.{◌≡◌, ◌≤◌, false, IfOk, IsNone, IsTrue, OnOk};
-ghost use Rattle.swc_ast.specs.Tree.{Tree};
+ghost use Rattle.swc_ast.specs.Tree.{Tree, label_of};
 ghost use Rattle.swc_ast.specs.Views.{stmt_tree};
 ghost use Rattle.swc_ast.specs.Weight.{is_list};
-ghost use Rattle.swc_static.specs.Names.{label_of};
 ghost use Rattle.swc_utils.specs.Globals.{unresolved};
 ghost use Rattle.swc_ast.specs.declared.statements.Stmt.{size-Stmt};
-ghost use Rattle.swc_walk.specs.Walks.{Opened};
+ghost use Rattle.tree_walk.specs.Walks.{Opened};
 ghost use Rattle.branch_rules.specs.Removes.{Removes, Rests, remove_pass};
 ghost use Rattle.branch_rules.specs.Turns.{Turns};
 

@@ -12,8 +12,8 @@ use Rattle.swc_ast.specs.Tree.{Text}
 use Rattle.swc_ast.specs.declared.errors.PassError.{PassError}
 use Rattle.swc_ast.specs.declared.errors.PassError.TheVariants as error
 use Rattle.swc_ast.specs.declared.expressions.Expr.{Expr}
-use Rattle.const_rules.specs.Views.{in_exports}
-use Rattle.const_rules.specs.declared.given.GivenModules.{GivenModules}
+use Rattle.const_imports.specs.Views.{in_exports}
+use Rattle.const_imports.specs.declared.given.GivenModules.{GivenModules}
 use Rattle.swc_const_modules.specs.Texts.{Texts, AllTexts, Names, NamesOne, IsUnreadable, SameExports, GivesAll}
 use Rattle.swc_const_modules.proofs.Maps.{at_text, added, first, key_there}
 

@@ -7,8 +7,8 @@ use Rattle.swc_ast.specs.Tree.{Text}
 use Rattle.swc_ast.specs.declared.errors.PassError.{PassError}
 use Rattle.swc_ast.specs.declared.errors.PassError.TheVariants as error
 use Rattle.swc_ast.specs.declared.expressions.Expr.{Expr}
-use Rattle.const_rules.specs.Views.{in_exports, is_given, has_value}
-use Rattle.const_rules.specs.declared.given.GivenModules.{GivenModules}
+use Rattle.const_imports.specs.Views.{in_exports, is_given, has_value}
+use Rattle.const_imports.specs.declared.given.GivenModules.{GivenModules}
 
 -- the texts of a module's exports, and of all modules
 abbrev pub Texts : Type 0

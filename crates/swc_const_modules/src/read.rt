@@ -3,8 +3,8 @@ ghost use Rattle.std.specs.Prelude.{◌≡◌, ◌⊎◌, false, IfOk, IfErr};
 ghost use Rattle.swc_ast.specs.declared.errors.PassError.TheVariants.{OutOfMemory};
 ghost use Rattle.swc_const_modules.specs.Texts.{Names, NamesOne, IsUnreadable, SameExports, GivesAll};
 
+use const_imports::GivenModules;
 use const_pass::ConstModules;
-use const_rules::GivenModules;
 use std::alloc::{AllocError, Global};
 use std::collections::BTreeMap;
 use swc_ast::{Expr, Mark, PassError};

@@ -6,7 +6,7 @@ use Rattle.swc_ast.specs.Modules.{item_tree}
 use Rattle.swc_ast.specs.Parts.{list_trees}
 use Rattle.swc_ast.specs.Reach.{begins_with_asm, is_default_function}
 use Rattle.swc_ast.specs.Redex.{is_delete}
-use Rattle.swc_ast.specs.Tree.{Label, Block, Module, Tree, node}
+use Rattle.swc_ast.specs.Tree.{Label, Block, Module, Tree, node, label_of}
 use Rattle.swc_ast.specs.Views.{stmt_tree}
 use Rattle.swc_ast.specs.Weight.{is_list}
 use Rattle.swc_ast.specs.declared.Span.{Span}
@@ -15,10 +15,9 @@ use Rattle.swc_ast.specs.declared.modules.ModuleItem.TheVariants as in_item
 use Rattle.swc_ast.specs.declared.statements.BlockStmt.{BlockStmt}
 use Rattle.swc_ast.specs.declared.statements.Stmt.{Stmt}
 use Rattle.swc_ast.specs.declared.statements.Stmt.TheVariants as in_stmt
-use Rattle.swc_static.specs.Names.{label_of}
-use Rattle.swc_walk.specs.Lists.{ItemsBecame, ListBecame, Shut, list_label}
-use Rattle.swc_walk.specs.declared.rules.ListPlace.{ListPlace}
-use Rattle.swc_walk.specs.declared.rules.ListPlace.TheVariants as place
+use Rattle.tree_walk.specs.Lists.{ItemsBecame, ListBecame, Shut, list_label}
+use Rattle.tree_walk.specs.declared.rules.ListPlace.{ListPlace}
+use Rattle.tree_walk.specs.declared.rules.ListPlace.TheVariants as place
 use Rattle.dce_rules.specs.Shakes.{Shaker, is_shut, is_head_alone, shake_pass}
 use Rattle.dce_code.specs.Lists.{trees, ListShaken}
 

@@ -9,9 +9,9 @@ use Rattle.swc_ast.specs.Tree.{Text, Name, Tree}
 use Rattle.swc_ast.specs.declared.modules.Module.{Module}
 use Rattle.swc_ast.specs.declared.modules.Script.{Script}
 use Rattle.swc_ast.specs.declared.names.Mark.{Mark}
-use Rattle.swc_static.proofs.ShapedViews.{module_shaped, script_shaped}
+use Rattle.static_proofs.proofs.ShapedViews.{module_shaped, script_shaped}
 use Rattle.swc_utils.specs.Globals.{unresolved}
-use Rattle.swc_walk.specs.Walks.{Whole}
+use Rattle.tree_walk.specs.Walks.{Whole}
 use Rattle.dce_rules.specs.Shakes.{shake_pass}
 use Rattle.dce_rules.specs.Uses.{declared_in, read_in, is_used_unnamed, free_to_go}
 use Rattle.dce_uses.specs.Tables.{Tells}

@@ -1,12 +1,11 @@
 -- Expressions at which nothing is to do.
 use Rattle.std.proofs.Common.{◌≡◌, true, refl}
 use Rattle.std.proofs.lemmas.Bool.{false≢true}
-use Rattle.swc_ast.specs.Tree.{VarDecl, Import, Tree, node}
+use Rattle.swc_ast.specs.Tree.{VarDecl, Import, Tree, node, label_of}
 use Rattle.swc_ast.specs.Views.{expr_tree}
 use Rattle.swc_ast.specs.declared.expressions.Expr.{Expr}
-use Rattle.swc_static.specs.Drawn.{is_expression}
-use Rattle.swc_static.specs.Names.{label_of}
-use Rattle.pass_steps.proofs.ExprTrees.{is_an_expression}
+use Rattle.swc_ast.specs.Labels.{is_expression}
+use Rattle.pass_proofs.proofs.ExprTrees.{is_an_expression}
 use Rattle.dce_rules.specs.Shakes.{Shaker, Rests}
 
 rests_by : (S : Shaker) (t : Tree) → is_expression (label_of t) ≡ true → Rests S t

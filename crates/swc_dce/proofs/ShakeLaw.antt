@@ -5,29 +5,28 @@ use Rattle.swc_ast.specs.Core.{IsCore}
 use Rattle.swc_ast.specs.Reach.{Reached}
 use Rattle.swc_ast.specs.Resolved.{IsResolved}
 use Rattle.swc_ast.specs.Run.{Same}
-use Rattle.swc_ast.specs.Tree.{Text, Name, Label, Module, Tree, node, Forest, bare}
+use Rattle.swc_ast.specs.Tree.{Text, Name, Label, Module, Tree, node, Forest, bare, label_of, children_of}
 use Rattle.swc_ast.specs.Valid.{valid}
 use Rattle.swc_ast.specs.Weight.{weight}
-use Rattle.swc_static.specs.Names.{label_of, trees_of}
-use Rattle.swc_static.specs.Shaped.{IsShaped}
-use Rattle.swc_static.proofs.Bare.{weight_bare}
-use Rattle.swc_static.proofs.Kept.{walk_keeps}
-use Rattle.swc_static.proofs.Walked.{leaves_walks}
-use Rattle.swc_walk.specs.Walks.{Whole, shut, whole}
-use Rattle.swc_walk.proofs.Walked.{whole_same}
-use Rattle.swc_kept.proofs.Finished.{whole_leaves}
+use Rattle.static_proofs.specs.Shaped.{IsShaped}
+use Rattle.static_proofs.proofs.Bare.{weight_bare}
+use Rattle.static_proofs.proofs.Kept.{walk_keeps}
+use Rattle.static_proofs.proofs.Walked.{leaves_walks}
+use Rattle.tree_walk.specs.Walks.{Whole, shut, whole}
+use Rattle.tree_walk.proofs.Walked.{whole_same}
+use Rattle.walk_proofs.proofs.Finished.{whole_leaves}
 use Rattle.swc_pass.specs.Pass.{SameBare, TellsChange}
 use Rattle.dce_rules.specs.Apart.{has_function}
 use Rattle.dce_rules.specs.Left.{declared_plainly, Entered, speaks_of_arguments, is_kept}
 use Rattle.dce_rules.specs.Shakes.{Shaker, shake_pass}
 use Rattle.dce_rules.specs.Uses.{calls_eval}
-use Rattle.dce_steps.specs.Laws.{Knows}
-use Rattle.dce_steps.proofs.Apart.{none_apart}
-use Rattle.dce_steps.proofs.Left.{unchanged_kept}
-use Rattle.dce_steps.proofs.Owes.{owes}
-use Rattle.dce_steps.proofs.Settles.{shaken_is_same}
-use Rattle.dce_steps.proofs.ShakenLaws.{shaken_resolved, shaken_core, shaken_falls}
-use Rattle.dce_steps.proofs.Standing.{reached_stands}
+use Rattle.dce_proofs.specs.Laws.{Knows}
+use Rattle.dce_proofs.proofs.Apart.{none_apart}
+use Rattle.dce_proofs.proofs.Left.{unchanged_kept}
+use Rattle.dce_proofs.proofs.Owes.{owes}
+use Rattle.dce_proofs.proofs.Settles.{shaken_is_same}
+use Rattle.dce_proofs.proofs.ShakenLaws.{shaken_resolved, shaken_core, shaken_falls}
+use Rattle.dce_proofs.proofs.Standing.{reached_stands}
 use Rattle.swc_dce.specs.Shaken.{Told, MadeFor, Shaken}
 
 -- whether it changed
@@ -50,7 +49,7 @@ module _ (S : Shaker) where
   own_list Module {ss = ss} {ts = ts} e k s w r o f h i = reached_stands (record { free_are = k.free_are; unread_are = k.unread_are; unread_bound = k.unread_bound }) w f h (none_apart ss ts f r o s i) i
   own_list l e k s w r o f h i = cc
 
-  reached_by : {c : Bool} {t u : Tree} {retained : List Text} {n : ℕ} → Knows S retained t → IsShaped t → Whole (shake_pass S) c t u → label_of t ≡ Module → IsResolved n t → IsCore t → (f : Name) → Reached retained (trees_of t) f → has_function f (trees_of t) ≡ true → has_function f (trees_of u) ≡ true
+  reached_by : {c : Bool} {t u : Tree} {retained : List Text} {n : ℕ} → Knows S retained t → IsShaped t → Whole (shake_pass S) c t u → label_of t ≡ Module → IsResolved n t → IsCore t → (f : Name) → Reached retained (children_of t) f → has_function f (children_of t) ≡ true → has_function f (children_of u) ≡ true
   reached_by k s (shut h) e r o f g i = i
   reached_by k s (whole {l = l} {ss = ss} j m) e r o f g i = own_list l e k s (whole j m) r o f g i
 

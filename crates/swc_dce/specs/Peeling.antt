@@ -3,7 +3,7 @@ use Rattle.std.specs.Prelude.{ℕ, ◌≡◌, ◌≤◌, ◌<◌, true, List}
 use Rattle.swc_ast.specs.declared.Span.{Span}
 use Rattle.swc_ast.specs.Marks.{mark_number}
 use Rattle.swc_ast.specs.Tree.{Module, Tree, node, Forest}
-use Rattle.dce_layers.specs.Layers.{Peels}
+use Rattle.dce_layer_proofs.specs.Layers.{Peels}
 use Rattle.swc_dce.specs.Shaken.{Told}
 
 -- The list of a module, and what so many rounds leave of it.

@@ -7,18 +7,17 @@ use Rattle.swc_ast.specs.Marks.{mark_number}
 use Rattle.swc_ast.specs.Reach.{Reached}
 use Rattle.swc_ast.specs.Resolved.{IsResolved}
 use Rattle.swc_ast.specs.Run.{Same}
-use Rattle.swc_ast.specs.Tree.{Text, Name, Label, Module, Tree, node, Forest}
+use Rattle.swc_ast.specs.Tree.{Text, Name, Label, Module, Tree, node, Forest, label_of, children_of}
 use Rattle.swc_ast.specs.Valid.{valid}
 use Rattle.swc_ast.specs.Weight.{weight}
-use Rattle.swc_static.specs.Names.{label_of, trees_of}
-use Rattle.swc_static.specs.Shaped.{IsShaped}
-use Rattle.swc_walk.specs.Walks.{Whole}
+use Rattle.static_proofs.specs.Shaped.{IsShaped}
+use Rattle.tree_walk.specs.Walks.{Whole}
 use Rattle.swc_pass.specs.Pass.{PassSpec, IsLawful, SameBare, TellsChange}
 use Rattle.dce_rules.specs.Apart.{has_function}
 use Rattle.dce_rules.specs.Left.{declared_plainly, Entered, speaks_of_arguments, is_kept}
 use Rattle.dce_rules.specs.Shakes.{Shaker, shake_pass}
 use Rattle.dce_rules.specs.Uses.{calls_eval, free_to_go}
-use Rattle.dce_steps.specs.Laws.{Knows}
+use Rattle.dce_proofs.specs.Laws.{Knows}
 
 -- what the shaker is told
 pub record Told : Type 0 where
@@ -53,7 +52,7 @@ pub record Shaken (told : Told) (t u : Tree) : Type 0 where
   pub core : IsCore t → IsCore u
   pub lighter : SameBare t u ⊎ (weight u < weight t)
   -- each function of a module's own list that is reached stands
-  pub reached : (n : ℕ) → label_of t ≡ Module → IsResolved n t → IsCore t → (f : Name) → Reached told.retained (trees_of t) f → has_function f (trees_of t) ≡ true → has_function f (trees_of u) ≡ true
+  pub reached : (n : ℕ) → label_of t ≡ Module → IsResolved n t → IsCore t → (f : Name) → Reached told.retained (children_of t) f → has_function f (children_of t) ≡ true → has_function f (children_of u) ≡ true
   -- where nothing changed, what declares a name plainly, in a place that is entered, is exported, retained or named elsewhere
   pub left : told.top_level ≡ true → SameBare t u → valid t ≡ true → calls_eval t ≡ false → speaks_of_arguments t ≡ false
       → (l : Label) (ss : List Span) (cs : Forest) → Entered (node l ss cs) t → (x : Name) (xs : List Name) → declared_plainly l cs ≡ x ∷ xs → is_kept told.retained t x ≡ true

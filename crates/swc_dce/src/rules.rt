@@ -3,8 +3,8 @@ ghost use Rattle.std.specs.Prelude.{◌≡◌, not, IsFalse};
 ghost use Rattle.swc_ast.specs.Modules.{module_decl_tree};
 ghost use Rattle.swc_ast.specs.Redex as redex;
 ghost use Rattle.swc_ast.specs.Views.{expr_tree};
-ghost use Rattle.swc_static.specs.Names.{label_of};
-ghost use Rattle.swc_walk.specs.Walks.{Became};
+ghost use Rattle.swc_ast.specs.Tree.{label_of};
+ghost use Rattle.tree_walk.specs.Walks.{Became};
 ghost use Rattle.dce_rules.specs.Shakes.{shake_pass};
 ghost use Rattle.dce_code.specs.Knowledge.{shaker};
 
@@ -12,7 +12,7 @@ use dce_code::{Known, begins_with_asm};
 use pass_places::is_delete;
 use std::alloc::{AllocError, Global};
 use swc_ast::{Expr, ModuleDecl, ModuleItem, Stmt, VarDecl};
-use swc_walk::{ListPlace, Place, Rules};
+use tree_walk::{ListPlace, Place, Rules};
 
 /// The rules, for a module of which something is known.
 #[derive(Drop)]

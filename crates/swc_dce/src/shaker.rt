@@ -15,7 +15,7 @@ use std::alloc::{AllocError, Global};
 use swc_ast::{Mark, Module, PassError, Script, SyntaxContext};
 use swc_pass::{CompilerPass, Pass, Repeated};
 use swc_utils::ExprCtx;
-use swc_walk::{walk_module, walk_script};
+use tree_walk::{walk_module, walk_script};
 
 /// A pass that removes declarations of names that nothing uses, and assignments to names that nothing reads, in one walk.
 #[derive(Drop)]

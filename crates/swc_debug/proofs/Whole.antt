@@ -1,9 +1,8 @@
 -- Validity of a tree, by what the node is and its children.
 use Rattle.std.proofs.Common.{◌≡◌, Bool, true, false, refl, ap, ◌∙◌, sym}
 use Rattle.std.specs.Prelude.{◌&&◌}
-use Rattle.swc_ast.specs.Tree.{Label, Tree, node, Forest}
+use Rattle.swc_ast.specs.Tree.{Label, Tree, node, Forest, label_of, children_of}
 use Rattle.swc_ast.specs.Valid.{good_names, good_shape, valid, valid_all}
-use Rattle.swc_visit.specs.Nodes.{label_of, children_of}
 
 split : (t : Tree) → valid t ≡ (good_names (label_of t) && good_shape (label_of t) (children_of t) && valid_all (children_of t))
 split (node l ss cs) = refl

@@ -2,11 +2,11 @@
 ghost use Rattle.std.specs.Prelude.{◌≡◌};
 ghost use Rattle.swc_ast.specs.Parts.{option_ident_name, option_word_text};
 ghost use Rattle.swc_ast.specs.Valid.{good_names, is_optional_name, is_optional_identifier, is_optional_word};
-ghost use Rattle.swc_visit.specs.Kinds.{kind_label};
+ghost use Rattle.tree_visit.specs.Kinds.{kind_label};
 
 use crate::words::{is_identifier, is_word};
 use swc_ast::{Ident, IdentName};
-use swc_visit::Kind;
+use tree_visit::Kind;
 
 /// Whether the names that a node holds are identifiers (ECMA-262, 12.7), or words where any word may stand: what validity asks
 /// of the node's names.

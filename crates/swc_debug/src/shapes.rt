@@ -2,11 +2,11 @@
 ghost use Rattle.std.specs.Prelude.{◌≡◌, map, nat_le};
 ghost use Rattle.swc_ast.specs.Expressions.{quasi_text};
 ghost use Rattle.swc_ast.specs.Valid.{good_shape, good_texts, count, is_last_absent as ends_absent, none_listed as lists_none, last_not_listed as ends_unlisted};
-ghost use Rattle.swc_visit.specs.Nodes.{children_forest};
-ghost use Rattle.swc_visit.specs.Kinds.{kind_label};
+ghost use Rattle.tree_visit.specs.Nodes.{children_forest};
+ghost use Rattle.tree_visit.specs.Kinds.{kind_label};
 
 use swc_ast::TplElement;
-use swc_visit::{Children, Kind};
+use tree_visit::{Children, Kind};
 
 /// Whether a node has the children that its kind asks for: what validity asks of the node beside its names and beside the
 /// validity of the children.
@@ -131,7 +131,7 @@ fn has_good_texts(quasis: &[TplElement], children: Children<'_>) -> bool
     false
 }
 
-#[tactic(auto, using(swc_visit::proofs::Caps::rest_falls, crate::proofs::Last::absent_starts, crate::proofs::Last::absent_goes_on))]
+#[tactic(auto, using(tree_visit::proofs::Caps::rest_falls, crate::proofs::Last::absent_starts, crate::proofs::Last::absent_goes_on))]
 fn is_last_absent(children: Children<'_>) -> bool
     ensures { result ≡ ends_absent (children_forest children.entry) }
 {
@@ -144,7 +144,7 @@ fn is_last_absent(children: Children<'_>) -> bool
     is_absent
 }
 
-#[tactic(auto, using(swc_visit::proofs::Caps::rest_falls))]
+#[tactic(auto, using(tree_visit::proofs::Caps::rest_falls))]
 fn none_listed(children: Children<'_>) -> bool
     ensures { result ≡ lists_none (children_forest children.entry) }
 {
@@ -158,7 +158,7 @@ fn none_listed(children: Children<'_>) -> bool
     true
 }
 
-#[tactic(auto, using(swc_visit::proofs::Caps::rest_falls, crate::proofs::Last::unlisted_starts, crate::proofs::Last::unlisted_goes_on))]
+#[tactic(auto, using(tree_visit::proofs::Caps::rest_falls, crate::proofs::Last::unlisted_starts, crate::proofs::Last::unlisted_goes_on))]
 fn last_not_listed(children: Children<'_>) -> bool
     ensures { result ≡ ends_unlisted (children_forest children.entry) }
 {

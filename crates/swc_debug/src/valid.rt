@@ -2,12 +2,12 @@
 ghost use Rattle.std.specs.Prelude.{◌≡◌, ◌↔◌, IsTrue, true};
 ghost use Rattle.swc_ast.specs.Modules.{module_tree, script_tree};
 ghost use Rattle.swc_ast.specs.Valid.{valid};
-ghost use Rattle.swc_visit.specs.Nodes.{node_tree};
+ghost use Rattle.tree_visit.specs.Nodes.{node_tree};
 
 use crate::names::has_good_names;
 use crate::shapes::has_good_shape;
 use swc_ast::{Module, Script};
-use swc_visit::Node;
+use tree_visit::Node;
 
 /// Returns whether a module is valid: no `Invalid` node, at least one declarator in each declaration and
 /// two items in each sequence, a handler or a final block in each `try`, names that are
@@ -26,7 +26,7 @@ pub fn is_script_valid(s: &Script) -> bool
     is_node_valid(Node::Script(s))
 }
 
-#[tactic(auto, using(swc_visit::proofs::Caps::opened_smaller, swc_visit::proofs::Caps::child_smaller, swc_visit::proofs::Caps::rest_smaller, swc_visit::proofs::Caps::rest_falls, crate::proofs::Whole::names_refuse, crate::proofs::Whole::shape_refuses, crate::proofs::Whole::children_decide))]
+#[tactic(auto, using(tree_visit::proofs::Caps::opened_smaller, tree_visit::proofs::Caps::child_smaller, tree_visit::proofs::Caps::rest_smaller, tree_visit::proofs::Caps::rest_falls, crate::proofs::Whole::names_refuse, crate::proofs::Whole::shape_refuses, crate::proofs::Whole::children_decide))]
 fn is_node_valid(n: Node<'_>) -> bool
     ensures { result ≡ valid (node_tree n.entry) }
 {

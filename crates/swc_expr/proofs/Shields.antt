@@ -2,27 +2,27 @@
 use Rattle.std.proofs.Common.{◌≡◌, ℕ, Bool, true, false, ◌&&◌, not, if◌then◌else◌, List, [], ◌∷◌, refl, sym, ap, ◌∙◌, subst, pos, zero, Option, Some}
 use Rattle.std.proofs.lemmas.Bool.{false≢true, true≢false}
 use Rattle.swc_ast.specs.Tree as tree
-use Rattle.swc_ast.specs.Tree.{Name, Seq, Label, Tree, node, Forest, ε, ◌⊳◌}
+use Rattle.swc_ast.specs.Tree.{Name, Seq, Label, Tree, node, Forest, ε, ◌⊳◌, label_of}
 use Rattle.swc_ast.specs.Redex.{is_zero}
 use Rattle.swc_ast.specs.Views.{expr_tree}
 use Rattle.swc_ast.specs.Weight.{weight}
 use Rattle.swc_ast.specs.declared.expressions.Expr.{Expr}
 use Rattle.swc_ast.specs.declared.Span.{Span}
-use Rattle.swc_static.specs.Free.{kind_at}
-use Rattle.swc_walk.specs.Parts.{stands_alone}
-use Rattle.swc_walk.specs.Walks.{Fits, Stepped}
-use Rattle.swc_walk.specs.declared.rules.Place.{Place}
-use Rattle.swc_walk.specs.declared.rules.Place.TheVariants as place
-use Rattle.swc_walk.specs.Parts.{is_bare}
-use Rattle.swc_walk.proofs.NodeKinds.{alone_fits, other_bare}
-use Rattle.swc_meaning.specs.Roles.{label}
+use Rattle.static_proofs.specs.Free.{kind_at}
+use Rattle.tree_walk.specs.Parts.{stands_alone}
+use Rattle.tree_walk.specs.Walks.{Fits, Stepped}
+use Rattle.tree_walk.specs.declared.rules.Place.{Place}
+use Rattle.tree_walk.specs.declared.rules.Place.TheVariants as place
+use Rattle.tree_walk.specs.Parts.{is_bare}
+use Rattle.tree_walk.proofs.NodeKinds.{alone_fits, other_bare}
+use Rattle.swc_ast.specs.Labels.{is_member_or_name}
 use Rattle.expr_rules.specs.ExprSteps.{ExprStep, front, text_length, text_character, array_length, array_item, object_value, in_guard}
 use Rattle.pass_rules.specs.Leaves.{guarded}
-use Rattle.expr_steps.specs.Laws.{is_guarded, is_member_or_name}
-use Rattle.expr_steps.proofs.Roomy.{guarded_lighter}
+use Rattle.expr_proofs.specs.Laws.{is_guarded}
+use Rattle.expr_proofs.proofs.Roomy.{guarded_lighter}
 use Rattle.pass_places.specs.Places.{is_shielding, is_shield, nowhere, shielded}
 use Rattle.expr_rules.specs.Replaced.{Replaced}
-use Rattle.pass_steps.proofs.ExprTrees.{is_an_expression}
+use Rattle.pass_proofs.proofs.ExprTrees.{is_an_expression}
 use Rattle.pass_places.specs.Dropped.{MayDrop}
 use Rattle.swc_expr.specs.Simplifies.{Rests, Simplifies, folds, default_goes, simplify_pass}
 
@@ -60,7 +60,7 @@ no_guard mark p (node Seq ss (z ⊳ b ⊳ ε)) u h s e = by_zero (is_zero z) ref
     by_zero true i = absurd (true≢false (sym (ap not (zero_front mark p ss z b u i s e)) ∙ (ap (λ k. k && not (stands_alone p b)) (sym i) ∙ h)))
 no_guard mark p t u h s e = refl
 
-bare_label : (t : Tree) → is_bare t ≡ true → is_member_or_name (label t) ≡ true
+bare_label : (t : Tree) → is_bare t ≡ true → is_member_or_name (label_of t) ≡ true
 bare_label (node (tree.Dot k) ss cs) h = refl
 bare_label (node tree.Index ss cs) h = refl
 bare_label (node (tree.Read x) ss cs) h = refl

@@ -4,32 +4,32 @@ use Rattle.std.proofs.lemmas.Bool.{false≢true, true≢false}
 use Rattle.swc_ast.specs.declared.UnaryOp.TheVariants.{Delete}
 use Rattle.swc_ast.specs.Redex.{is_delete}
 use Rattle.swc_ast.specs.Run.{Same}
-use Rattle.swc_ast.specs.Tree.{Name, Label, Unary, Binary, Cond, Tree, node, Forest, bare, ε, ◌⊳◌}
+use Rattle.swc_ast.specs.Tree.{Name, Label, Unary, Binary, Cond, Tree, node, Forest, bare, ε, ◌⊳◌, label_of}
 use Rattle.swc_ast.specs.Weight.{weight}
-use Rattle.swc_static.specs.Free.{kind_at, has_kind}
-use Rattle.swc_static.specs.Names.{label_of}
-use Rattle.swc_static.specs.Step.{Step}
-use Rattle.swc_static.specs.Vars.{is_top, LosesNoVar}
-use Rattle.swc_static.proofs.Bare.{weight_bare}
-use Rattle.swc_static.proofs.Free.{delete_free}
-use Rattle.swc_static.proofs.Kept.{walk_keeps}
-use Rattle.swc_static.proofs.Vars.{loses_none, walk_loses_none}
-use Rattle.swc_static.proofs.Walked.{leaves_walks}
-use Rattle.swc_walk.specs.Pass.{is_visited}
-use Rattle.swc_walk.specs.Walks.{Whole}
-use Rattle.swc_walk.proofs.Walked.{whole_same}
-use Rattle.swc_kept.specs.Finished.{Does, at_front, at_node, at_list, at_both, Finished}
-use Rattle.swc_kept.specs.Plain.{PlainRight, NodeRight, does_same, default_goes as undefined_goes}
-use Rattle.swc_kept.proofs.Finished.{whole_leaves}
-use Rattle.swc_kept.proofs.Plain.{right_same}
-use Rattle.swc_kept.proofs.Static.{whole_resolved, whole_core, whole_falls, whole_free}
+use Rattle.static_proofs.specs.Free.{kind_at, has_kind}
+use Rattle.swc_ast.specs.Labels.{is_whole}
+use Rattle.static_proofs.specs.Step.{Step}
+use Rattle.static_proofs.specs.Vars.{LosesNoVar}
+use Rattle.static_proofs.proofs.Bare.{weight_bare}
+use Rattle.static_proofs.proofs.Free.{delete_free}
+use Rattle.static_proofs.proofs.Kept.{walk_keeps}
+use Rattle.static_proofs.proofs.Vars.{loses_none, walk_loses_none}
+use Rattle.static_proofs.proofs.Walked.{leaves_walks}
+use Rattle.tree_walk.specs.Pass.{is_visited}
+use Rattle.tree_walk.specs.Walks.{Whole}
+use Rattle.tree_walk.proofs.Walked.{whole_same}
+use Rattle.walk_proofs.specs.Finished.{Does, at_front, at_node, at_list, at_both, Finished}
+use Rattle.walk_proofs.specs.Plain.{PlainRight, NodeRight, does_same, default_goes as undefined_goes}
+use Rattle.walk_proofs.proofs.Finished.{whole_leaves}
+use Rattle.walk_proofs.proofs.Plain.{right_same}
+use Rattle.walk_proofs.proofs.Static.{whole_resolved, whole_core, whole_falls, whole_free}
 use Rattle.swc_pass.specs.Pass.{SameBare, TellsChange}
 use Rattle.expr_rules.specs.Replaced.{expr_redex}
 use Rattle.pass_places.specs.Dropped.{dropped}
-use Rattle.pass_steps.proofs.Defaults.{void_is_undefined}
-use Rattle.pass_steps.proofs.DefaultsOwe.{default_owes}
-use Rattle.expr_steps.proofs.ExprSteps.{step_exact}
-use Rattle.expr_steps.proofs.Owes.{step_owes, step_fits, step_no_item, step_below}
+use Rattle.pass_proofs.proofs.Defaults.{void_is_undefined}
+use Rattle.pass_proofs.proofs.DefaultsOwe.{default_owes}
+use Rattle.expr_proofs.proofs.ExprSteps.{step_exact}
+use Rattle.expr_proofs.proofs.Owes.{step_owes, step_fits, step_no_item, step_below}
 use Rattle.swc_expr.specs.Simplifies.{Simplifies, folds, default_goes, simplify_pass}
 use Rattle.swc_expr.specs.Simplified.{Simplified}
 
@@ -64,7 +64,7 @@ owes t u (at_both e d s) = absurd d
 
 -- no `var` goes
 
-below : {mark : ℕ} {t u : Tree} → Simplifies mark t u → is_top (label_of t) ≡ false
+below : {mark : ℕ} {t u : Tree} → Simplifies mark t u → is_whole (label_of t) ≡ false
 below (folds e s) = step_below s
 below (default_goes (dropped x ss rs d h)) = refl
 

@@ -8,9 +8,9 @@ use Rattle.swc_ast.specs.Core.{IsCore}
 use Rattle.swc_ast.specs.Resolved.{IsResolved}
 use Rattle.swc_ast.specs.Run.{Same}
 use Rattle.swc_ast.specs.Weight.{weight}
-use Rattle.swc_static.specs.Free.{has_kind}
-use Rattle.swc_static.specs.Vars.{LosesNoVar}
-use Rattle.swc_walk.specs.Walks.{Whole}
+use Rattle.static_proofs.specs.Free.{has_kind}
+use Rattle.static_proofs.specs.Vars.{LosesNoVar}
+use Rattle.tree_walk.specs.Walks.{Whole}
 use Rattle.swc_pass.specs.Pass.{PassSpec, IsLawful, SameBare}
 use Rattle.expr_rules.specs.Replaced.{expr_redex}
 use Rattle.swc_expr.specs.Simplifies.{simplify_pass}

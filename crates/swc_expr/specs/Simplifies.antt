@@ -1,11 +1,10 @@
 -- What the expression simplifier does at a node whose children it has done.
 use Rattle.std.specs.Prelude.{ℕ, ◌≡◌, true, false}
 use Rattle.swc_ast.specs.Redex.{is_delete}
-use Rattle.swc_ast.specs.Tree.{Tree}
-use Rattle.swc_static.specs.Drawn.{is_expression}
-use Rattle.swc_static.specs.Free.{kind_at}
-use Rattle.swc_static.specs.Names.{label_of}
-use Rattle.swc_walk.specs.Pass.{Pass}
+use Rattle.swc_ast.specs.Tree.{Tree, label_of}
+use Rattle.swc_ast.specs.Labels.{is_expression}
+use Rattle.static_proofs.specs.Free.{kind_at}
+use Rattle.tree_walk.specs.Pass.{Pass}
 use Rattle.pass_places.specs.Dropped.{Dropped}
 use Rattle.expr_rules.specs.ExprSteps.{ExprStep}
 use Rattle.expr_rules.specs.Replaced.{expr_redex}

@@ -3,9 +3,9 @@ ghost use Rattle.std.specs.Prelude.{◌≡◌, not, IfOk, IsNone};
 ghost use Rattle.swc_ast.specs.Expressions.{param_tree};
 ghost use Rattle.swc_ast.specs.Redex as redex;
 ghost use Rattle.swc_ast.specs.Views.{expr_tree};
-ghost use Rattle.swc_static.specs.Names.{label_of};
+ghost use Rattle.swc_ast.specs.Tree.{label_of};
 ghost use Rattle.swc_utils.specs.Globals.{unresolved};
-ghost use Rattle.swc_walk.specs.Walks.{Stepped};
+ghost use Rattle.tree_walk.specs.Walks.{Stepped};
 ghost use Rattle.pass_places.specs.Dropped.{has_void_default};
 ghost use Rattle.expr_rules.specs.Replaced.{Replaced};
 ghost use Rattle.swc_expr.specs.Simplifies.{Rests, simplify_pass};
@@ -16,7 +16,7 @@ use pass_places::{drop_default, is_delete, is_shield, shielded};
 use std::alloc::{AllocError, Global};
 use swc_ast::{Expr, ModuleItem, PassError, Pat, Stmt};
 use swc_utils::ExprCtx;
-use swc_walk::{ListPlace, Place, Rules};
+use tree_walk::{ListPlace, Place, Rules};
 
 /// The rules, for a module whose unresolved names are those of a context.
 #[derive(Drop)]

@@ -10,7 +10,7 @@ use std::alloc::Global;
 use swc_ast::{Mark, Module, PassError, Script, SyntaxContext};
 use swc_pass::{CompilerPass, Pass, Repeated};
 use swc_utils::ExprCtx;
-use swc_walk::{walk_module, walk_script};
+use tree_walk::{walk_module, walk_script};
 
 /// Options of the expression simplifier: there are none.
 #[derive(Clone, Copy, Debug, Default, PartialEq, Eq, Hash)]

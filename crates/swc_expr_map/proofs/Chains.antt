@@ -1,9 +1,9 @@
 -- The name that a chain begins with, by what its outermost node was found to be.
 use Rattle.std.proofs.Common.{◌≡◌, [], refl, ◌∙◌}
-use Rattle.swc_ast.specs.Tree.{Read, Tree, node}
-use Rattle.swc_visit.specs.Nodes.{Opens, label_of, children_of, children_forest}
-use Rattle.swc_visit.specs.Kinds.{kind_label}
-use Rattle.swc_visit.specs.declared.opened.Opened.{Opened}
+use Rattle.swc_ast.specs.Tree.{Read, Tree, node, label_of, children_of}
+use Rattle.tree_visit.specs.Nodes.{Opens, children_forest}
+use Rattle.tree_visit.specs.Kinds.{kind_label}
+use Rattle.tree_visit.specs.declared.opened.Opened.{Opened}
 use Rattle.swc_expr_map.specs.Entries.{leading_name}
 
 parts_lead : (t : Tree) → leading_name t ≡ leading_name (node (label_of t) [] (children_of t))

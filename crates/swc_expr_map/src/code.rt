@@ -2,7 +2,7 @@
 ghost use Rattle.std.specs.Prelude.{◌≡◌, pos};
 ghost use Rattle.swc_ast.specs.Parts.{ident_name, option_ident_name, option_word_text};
 ghost use Rattle.swc_ast.specs.Statements.{handler_param};
-ghost use Rattle.swc_visit.specs.Kinds.{kind_label};
+ghost use Rattle.tree_visit.specs.Kinds.{kind_label};
 ghost use Rattle.swc_expr_map.specs.Codes.{label_code, one_text, two_texts, handler_code, plain as plain_code, numbered as numbered_code, listed as listed_code, named as named_code, optional_text as text_row, optional_name as name_row, optional_context as context_of};
 ghost use Rattle.swc_expr_map.specs.Order.{code_cmp};
 ghost use Rattle.swc_expr_map.specs.Rows.{code_of, row_of};
@@ -11,7 +11,7 @@ use crate::numbers::{assign_number, binary_number, unary_number, update_number, 
 use crate::texts::Texts;
 use std::cmp::Ordering;
 use swc_ast::{CatchClause, Ident, IdentName, SyntaxContext};
-use swc_visit::Kind;
+use tree_visit::Kind;
 
 /// What a node is: a number for its kind, and its fields without contexts. Only imports and exports have theirs.
 #[derive(Clone, Copy)]

@@ -2,14 +2,14 @@
 ghost use Rattle.std.specs.Prelude.{◌≡◌};
 ghost use Rattle.std.specs.Ordering.{ordering_then};
 ghost use Rattle.swc_ast.specs.Views.{expr_tree};
-ghost use Rattle.swc_visit.specs.Kinds.{kind_label};
-ghost use Rattle.swc_visit.specs.Nodes.{children_forest};
+ghost use Rattle.tree_visit.specs.Kinds.{kind_label};
+ghost use Rattle.tree_visit.specs.Nodes.{children_forest};
 ghost use Rattle.swc_expr_map.specs.Order.{key_cmp, label_cmp, children_cmp};
 
 use crate::code::Code;
 use std::cmp::Ordering;
 use swc_ast::Expr;
-use swc_visit::{Opened, open_expr};
+use tree_visit::{Opened, open_expr};
 
 /// The order of two expressions without spans and contexts. It ends at the first node that differs.
 pub(crate) fn compare(a: &Expr, b: &Expr) -> Ordering

@@ -1,11 +1,11 @@
 //! The names that chains of members begin with.
 ghost use Rattle.std.specs.Prelude.{◌≡◌, [], option_map};
 ghost use Rattle.swc_ast.specs.Tree.{node};
-ghost use Rattle.swc_visit.specs.Kinds.{kind_label};
-ghost use Rattle.swc_visit.specs.Nodes.{children_forest};
+ghost use Rattle.tree_visit.specs.Kinds.{kind_label};
+ghost use Rattle.tree_visit.specs.Nodes.{children_forest};
 ghost use Rattle.swc_expr_map.specs.Entries.{leading_name as chain_name, object_name as name_of_object};
 
-use swc_visit::{Children, Kind, Opened};
+use tree_visit::{Children, Kind, Opened};
 
 /// The text of the name that a chain of members begins with.
 #[cycle(leading_name)]

@@ -11,7 +11,7 @@ use crate::search_tree::SearchTree;
 use std::alloc::Global;
 use std::marker::Model;
 use swc_ast::{Expr, PassError};
-use swc_visit::open_expr;
+use tree_visit::open_expr;
 
 /// Values by expressions. Keys are compared without spans and contexts, and have numbers from 0 on in their order.
 #[derive(Drop)]

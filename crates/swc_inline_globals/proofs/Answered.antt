@@ -5,20 +5,20 @@ use Rattle.swc_ast.specs.Resolved.{IsResolved}
 use Rattle.swc_ast.specs.Run.{Sees, Same}
 use Rattle.swc_ast.specs.Tree.{Module, Script, Tree, bare}
 use Rattle.swc_ast.specs.Valid.{valid}
-use Rattle.swc_meaning.proofs.Spans.{same_bare}
+use Rattle.meaning_proofs.proofs.Spans.{same_bare}
 use Rattle.swc_pass.specs.Chain.{GivesBack, input, other}
 use Rattle.swc_pass.specs.Given.{Answers, SameGiven}
 use Rattle.swc_pass.specs.Pass.{TellsChange}
 use Rattle.given_shield.specs.Shield.{shield}
-use Rattle.swc_given.specs.Givable.{AllGivable}
-use Rattle.swc_given.specs.Met.{met, covers}
-use Rattle.swc_given.specs.Put.{here, put}
-use Rattle.swc_given.specs.Worked.{Finals, finished, has_final, puts, Worked}
-use Rattle.swc_given.proofs.ByWalk.{IsWhole, a_module, a_script}
-use Rattle.swc_given.proofs.Cycles.{no_cycle}
-use Rattle.swc_given.proofs.Givable.{puts_givable, walked_givable}
-use Rattle.swc_given.proofs.Instances.{inline_same}
-use Rattle.swc_given.proofs.Kept.{PutsGivable, put_resolved, put_valid, put_core}
+use Rattle.given_rules.specs.Givable.{AllGivable}
+use Rattle.given_rules.specs.Met.{met, covers}
+use Rattle.given_rules.specs.Put.{here, put}
+use Rattle.given_rules.specs.Worked.{Finals, finished, has_final, puts, Worked}
+use Rattle.given_rules.proofs.ByWalk.{IsWhole, a_module, a_script}
+use Rattle.given_rules.proofs.Cycles.{no_cycle}
+use Rattle.given_rules.proofs.Givable.{puts_givable, walked_givable}
+use Rattle.given_rules.proofs.Instances.{inline_same}
+use Rattle.given_rules.proofs.Kept.{PutsGivable, put_resolved, put_valid, put_core}
 use Rattle.given_globals.specs.Globals.{mark_of, answers_of}
 use Rattle.given_globals.specs.declared.settings.Settings.{Settings}
 use Rattle.swc_inline_globals.specs.Answers.{Inlined}

@@ -7,19 +7,19 @@ use Rattle.swc_ast.specs.declared.UnaryOp.TheVariants.{Minus, Plus, Bang, Tilde,
 use Rattle.swc_ast.specs.declared.names.Ident.{Ident}
 use Rattle.swc_ast.specs.Expressions.{unary_node}
 use Rattle.swc_ast.specs.Parts.{ident_name, ident_tree}
-use Rattle.swc_put.specs.Puts.{enter}
+use Rattle.tree_put.specs.Puts.{enter}
 use Rattle.given_globals.specs.declared.found.Found as in_found
 use Rattle.given_globals.specs.declared.found.Found.TheVariants as found
 use Rattle.swc_inline_globals.specs.Slots.{types}
 use Rattle.swc_inline_globals.proofs.Forms.{is_name, is_type}
 use Rattle.swc_ast.specs.Tree.{Text, Read, TypeOfName, Dot, Index, Tree, node, ε}
 use Rattle.swc_pass.specs.Given.{Found, nothing, a_value, a_plain}
-use Rattle.swc_put.specs.declared.rules.Spot.{Spot}
+use Rattle.tree_put.specs.declared.rules.Spot.{Spot}
 use Rattle.given_shield.specs.Shield.{shield}
-use Rattle.swc_given.specs.Walk.{answer, found_at, gathered}
-use Rattle.swc_given.specs.Worked.{Finished, put_found, put_text, put_expression}
-use Rattle.swc_given.proofs.Covered.{Spanless}
-use Rattle.swc_given.proofs.Instances.{inlined_spanless}
+use Rattle.given_rules.specs.Walk.{answer, found_at, gathered}
+use Rattle.given_rules.specs.Worked.{Finished, put_found, put_text, put_expression}
+use Rattle.given_rules.proofs.Covered.{Spanless}
+use Rattle.given_rules.proofs.Instances.{inlined_spanless}
 use Rattle.given_globals.specs.Globals.{mark_of, given_of, answers_of}
 use Rattle.given_globals.specs.Rows.{found_of}
 use Rattle.given_globals.specs.declared.settings.Settings.{Settings}

@@ -3,8 +3,8 @@ use Rattle.std.proofs.Common.{◌≡◌, ℕ, zero, suc, ◌+◌, ◌<◌, ◌==
 use Rattle.std.proofs.lemmas.Bool.{and_parts}
 use Rattle.std.proofs.lemmas.Bool.Decides.{eqb_tells}
 use Rattle.std.proofs.lemmas.List.Sums.{sum_by-cons}
-use Rattle.swc_given.specs.Cycles.{is_among}
-use Rattle.swc_given.specs.Met.{covers}
+use Rattle.given_rules.specs.Cycles.{is_among}
+use Rattle.given_rules.specs.Met.{covers}
 
 -- what a place holds once something is set there, and what the others hold
 

@@ -8,8 +8,8 @@ use Rattle.std.specs.List.{All}
 use Rattle.swc_ast.specs.Tree.{Tree}
 use Rattle.swc_levels.specs.Levels.{levels}
 use Rattle.swc_pass.specs.Given.{Answers, value_at}
-use Rattle.swc_given.specs.Cycles.{is_among, Leads, meets, through}
-use Rattle.swc_given.specs.Met.{met}
+use Rattle.given_rules.specs.Cycles.{is_among, Leads, meets, through}
+use Rattle.given_rules.specs.Met.{met}
 use Rattle.swc_inline_globals.specs.Nesting.{Nests, alone, with_value, Behind, nothing_behind, value_behind, Reaches, asked, further, TurnsBack, TellsOfTree, TellsBehind, TellsOfValue, IfCounted, IsBegun, Told, Lead, FewerBegun}
 use Rattle.swc_inline_globals.specs.Walking.{AllInRange}
 use Rattle.swc_inline_globals.specs.declared.levels.Nesting.{Nesting}

@@ -4,19 +4,19 @@ use Rattle.std.proofs.lemmas.Bool.{false≢true}
 use Rattle.swc_ast.specs.Tree.{Module, Script, Tree, node}
 use Rattle.swc_ast.specs.declared.expressions.Expr.{Expr}
 use Rattle.swc_pass.specs.Given.{Answers}
-use Rattle.swc_put.specs.Put as walk
-use Rattle.swc_put.specs.Still.{still}
-use Rattle.swc_put.specs.Walks.{Makes}
-use Rattle.swc_put.specs.declared.rules.Spot.TheVariants.{Here}
+use Rattle.tree_put.specs.Put as walk
+use Rattle.tree_put.specs.Still.{still}
+use Rattle.tree_put.specs.Walks.{Makes}
+use Rattle.tree_put.specs.declared.rules.Spot.TheVariants.{Here}
 use Rattle.given_shield.specs.Shield.{shield}
-use Rattle.swc_given.specs.Formed.{formed}
-use Rattle.swc_given.specs.Met.{met, covers}
-use Rattle.swc_given.specs.Put.{here, put}
-use Rattle.swc_given.specs.Walk.{gathering, put_answer}
-use Rattle.swc_given.specs.Worked.{Finished, finished, has_final, puts}
-use Rattle.swc_given.proofs.ByWalk.{put_by_walk}
-use Rattle.swc_given.proofs.ByWalk as by_walk
-use Rattle.swc_given.proofs.Gathered.{gathers}
+use Rattle.given_rules.specs.Formed.{formed}
+use Rattle.given_rules.specs.Met.{met, covers}
+use Rattle.given_rules.specs.Put.{here, put}
+use Rattle.given_rules.specs.Walk.{gathering, put_answer}
+use Rattle.given_rules.specs.Worked.{Finished, finished, has_final, puts}
+use Rattle.given_rules.proofs.ByWalk.{put_by_walk}
+use Rattle.given_rules.proofs.ByWalk as by_walk
+use Rattle.given_rules.proofs.Gathered.{gathers}
 use Rattle.given_globals.specs.Globals.{answers_of}
 use Rattle.given_globals.specs.declared.settings.Settings.{Settings}
 use Rattle.swc_inline_globals.specs.Made.{is_whole, IsMade}

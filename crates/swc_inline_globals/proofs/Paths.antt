@@ -4,8 +4,8 @@ use Rattle.std.proofs.lemmas.Bool.{false≢true}
 use Rattle.std.proofs.lemmas.List.{reverse-append}
 use Rattle.swc_ast.specs.Tree.{Tree}
 use Rattle.swc_pass.specs.Given.{Answers, value_at}
-use Rattle.swc_given.specs.Cycles.{is_among, Leads, meets, through, Cycle}
-use Rattle.swc_given.specs.Met.{met}
+use Rattle.given_rules.specs.Cycles.{is_among, Leads, meets, through, Cycle}
+use Rattle.given_rules.specs.Met.{met}
 use Rattle.swc_inline_globals.specs.Walking.{walked, Path, nowhere, begins, goes}
 use Rattle.swc_inline_globals.specs.declared.finals.Frame.{Frame}
 

@@ -2,8 +2,8 @@
 use Rattle.std.proofs.Common.{◌≡◌, ℕ, Bool, true, [], length, nat_lt, lt-ltb}
 use Rattle.swc_ast.specs.Tree.{Label, Read, Shorthand, TypeOfName, Dot, Index, CallEval, CallDot, CallIndex, Tree, node, Forest, ε, ◌⊳◌}
 use Rattle.swc_pass.specs.Given.{a_value, Answers}
-use Rattle.swc_given.specs.Met.{own_found, met}
-use Rattle.swc_given.proofs.Uncounted.{all_covered}
+use Rattle.given_rules.specs.Met.{own_found, met}
+use Rattle.given_rules.proofs.Uncounted.{all_covered}
 use Rattle.given_globals.specs.Globals.{answers_of}
 use Rattle.given_globals.specs.declared.settings.Settings.{Settings}
 use Rattle.given_globals.proofs.Ranges.{found_within}

@@ -9,10 +9,10 @@ use Rattle.swc_ast.specs.Views.{expr_tree}
 use Rattle.swc_ast.specs.declared.expressions.Expr.{Expr}
 use Rattle.swc_pass.specs.Given.{Answers, value_at}
 use Rattle.given_shield.specs.Shield.{shield}
-use Rattle.swc_given.specs.Cycles.{is_among}
-use Rattle.swc_given.specs.Met.{met, covers}
-use Rattle.swc_given.specs.Put.{here, put}
-use Rattle.swc_given.specs.Worked.{final, finished, has_final, puts, none_worked, one_worked}
+use Rattle.given_rules.specs.Cycles.{is_among}
+use Rattle.given_rules.specs.Met.{met, covers}
+use Rattle.given_rules.specs.Put.{here, put}
+use Rattle.given_rules.specs.Worked.{final, finished, has_final, puts, none_worked, one_worked}
 use Rattle.swc_inline_globals.specs.Slots.{slot_tree, slots}
 use Rattle.swc_inline_globals.specs.Walking.{is_done, AllDone, Grows, AreFinals, IsFrame, IsReady, IsFresh, walked, Path, nowhere, IsBegun, Standing}
 use Rattle.swc_inline_globals.specs.declared.finals.Frame.{Frame}

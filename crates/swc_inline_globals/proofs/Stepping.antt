@@ -11,9 +11,9 @@ use Rattle.swc_ast.specs.declared.errors.PassError.{PassError}
 use Rattle.swc_ast.specs.declared.errors.PassError.TheVariants.{OutOfMemory}
 use Rattle.swc_ast.specs.declared.expressions.Expr.{Expr}
 use Rattle.swc_pass.specs.Given.{value_at}
-use Rattle.swc_given.specs.Cycles.{is_among}
-use Rattle.swc_given.specs.Met.{covers}
-use Rattle.swc_given.proofs.Uncounted.{covers_append}
+use Rattle.given_rules.specs.Cycles.{is_among}
+use Rattle.given_rules.specs.Met.{covers}
+use Rattle.given_rules.proofs.Uncounted.{covers_append}
 use Rattle.given_globals.specs.Globals.{answers_of}
 use Rattle.given_globals.specs.declared.settings.Settings.{Settings}
 use Rattle.swc_inline_globals.specs.Slots.{slot_tree}

@@ -6,8 +6,8 @@ use Rattle.swc_ast.specs.Tree.{Tree}
 use Rattle.swc_ast.specs.Views.{expr_tree}
 use Rattle.swc_ast.specs.declared.expressions.Expr.{Expr}
 use Rattle.swc_pass.specs.Given.{Answers, value_at}
-use Rattle.swc_given.specs.Cycles.{is_among, Cycle}
-use Rattle.swc_given.specs.Met.{met}
+use Rattle.given_rules.specs.Cycles.{is_among, Cycle}
+use Rattle.given_rules.specs.Met.{met}
 use Rattle.swc_inline_globals.specs.Walking.{IsFrame, IsReady, IsNeed, SameFrame, walked, Path, goes, IsBegun, Standing}
 use Rattle.swc_inline_globals.specs.declared.finals.Frame.{Frame}
 use Rattle.swc_inline_globals.proofs.Paths.{walked_push, path_cycle}

@@ -11,11 +11,11 @@ use Rattle.swc_ast.specs.declared.errors.PassError.TheVariants.{OutOfMemory, Cyc
 use Rattle.swc_pass.specs.Chain.{GivesBack}
 use Rattle.swc_pass.specs.Given.{Answers, SameGiven}
 use Rattle.given_shield.specs.Shield.{shield}
-use Rattle.swc_given.specs.Cycles.{Cycle}
-use Rattle.swc_given.specs.Givable.{AllGivable}
-use Rattle.swc_given.specs.Met.{met, covers}
-use Rattle.swc_given.specs.Put.{here, put}
-use Rattle.swc_given.specs.Worked.{Finals, finished, has_final, puts, Worked}
+use Rattle.given_rules.specs.Cycles.{Cycle}
+use Rattle.given_rules.specs.Givable.{AllGivable}
+use Rattle.given_rules.specs.Met.{met, covers}
+use Rattle.given_rules.specs.Put.{here, put}
+use Rattle.given_rules.specs.Worked.{Finals, finished, has_final, puts, Worked}
 use Rattle.given_globals.specs.Globals.{answers_of, told_name}
 use Rattle.given_globals.specs.declared.settings.Settings.{Settings}
 

@@ -3,10 +3,10 @@ use Rattle.std.specs.Prelude.{ℕ, ◌≡◌, true, false, Bool, slice_get, Opti
 use Rattle.swc_ast.specs.Tree.{Module, Script, Tree, node}
 use Rattle.swc_pass.specs.Pass.{SameBare}
 use Rattle.given_shield.specs.Shield.{shield}
-use Rattle.swc_given.specs.Formed.{formed as is_formed}
-use Rattle.swc_given.specs.Met.{met, covers}
-use Rattle.swc_given.specs.Put.{here, put}
-use Rattle.swc_given.specs.Worked.{Finals, finished, has_final, puts, Worked}
+use Rattle.given_rules.specs.Formed.{formed as is_formed}
+use Rattle.given_rules.specs.Met.{met, covers}
+use Rattle.given_rules.specs.Put.{here, put}
+use Rattle.given_rules.specs.Worked.{Finals, finished, has_final, puts, Worked}
 use Rattle.given_globals.specs.Globals.{answers_of}
 use Rattle.given_globals.specs.declared.settings.Settings.{Settings}
 

@@ -3,8 +3,8 @@ use Rattle.std.specs.Prelude.{ℕ, ◌+◌, ◌<◌, ◌≤◌, ◌≡◌, ⊤, 
 use Rattle.swc_ast.specs.Tree.{Tree}
 use Rattle.swc_levels.specs.Levels.{levels}
 use Rattle.swc_pass.specs.Given.{Answers, value_at}
-use Rattle.swc_given.specs.Cycles.{is_among, Leads, Cycle}
-use Rattle.swc_given.specs.Met.{met}
+use Rattle.given_rules.specs.Cycles.{is_among, Leads, Cycle}
+use Rattle.given_rules.specs.Met.{met}
 use Rattle.given_globals.specs.Globals.{answers_of}
 use Rattle.swc_inline_globals.specs.declared.levels.Counting.{Counting}
 use Rattle.swc_inline_globals.specs.declared.levels.Nesting.{Nesting}

@@ -5,7 +5,7 @@ use Rattle.swc_ast.specs.Views.{expr_tree}
 use Rattle.swc_ast.specs.declared.expressions.Expr.{Expr}
 use Rattle.swc_ast.specs.declared.UnaryOp.{UnaryOp}
 use Rattle.swc_ast.specs.declared.UnaryOp.TheVariants.{TypeOf}
-use Rattle.swc_given.specs.Worked.{Finished}
+use Rattle.given_rules.specs.Worked.{Finished}
 
 abbrev pub slot_tree : Option (Option Expr) → Option Tree
 slot_tree None = None

@@ -10,10 +10,10 @@ use Rattle.swc_ast.specs.declared.errors.PassError.TheVariants.{CyclicGlobals}
 use Rattle.swc_ast.specs.declared.expressions.Expr.{Expr}
 use Rattle.swc_pass.specs.Given.{Answers, value_at}
 use Rattle.given_shield.specs.Shield.{shield}
-use Rattle.swc_given.specs.Cycles.{is_among}
-use Rattle.swc_given.specs.Met.{met, covers}
-use Rattle.swc_given.specs.Put.{here, put}
-use Rattle.swc_given.specs.Worked.{Finals, finished, puts, Worked}
+use Rattle.given_rules.specs.Cycles.{is_among}
+use Rattle.given_rules.specs.Met.{met, covers}
+use Rattle.given_rules.specs.Put.{here, put}
+use Rattle.given_rules.specs.Worked.{Finals, finished, puts, Worked}
 use Rattle.given_globals.specs.Globals.{answers_of, told_name}
 use Rattle.given_globals.specs.declared.settings.Settings.{Settings}
 use Rattle.swc_inline_globals.specs.Answers.{Refused}

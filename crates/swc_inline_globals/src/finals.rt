@@ -1,7 +1,7 @@
 //! Values with what is given put in their places: each value once that is met, after those that are met in it.
 ghost use Rattle.std.specs.Prelude.{◌≡◌, ◌<◌, true, [], length, None, IfOk, IfErr, OnOk, IfSome};
 ghost use Rattle.swc_ast.specs.declared.errors.PassError.TheVariants.{OutOfMemory};
-ghost use Rattle.swc_given.specs.Cycles.{is_among};
+ghost use Rattle.given_rules.specs.Cycles.{is_among};
 ghost use Rattle.given_globals.specs.Globals.{answers_of};
 ghost use Rattle.swc_inline_globals.specs.Walking.{AllDone, AllInRange, AreMade, IsFresh, IsReady, IsNeed, SameFrame, Stands, Settles, Steps, Begins, Finishes, TellsName, RefusedFrom};
 
@@ -10,7 +10,7 @@ use crate::put::Putting;
 use given_globals::Lookup;
 use std::alloc::{AllocError, Global};
 use swc_ast::{Expr, PassError};
-use swc_put::{Spot, put_expr};
+use tree_put::{Spot, put_expr};
 
 /// A value that is walked.
 #[derive(Drop)]

@@ -2,14 +2,14 @@
 ghost use Rattle.std.specs.Prelude.{ℕ, List, [], ◌≡◌, IfOk};
 ghost use Rattle.swc_ast.specs.Views.{expr_tree};
 ghost use Rattle.swc_pass.specs.Given.{Answers};
-ghost use Rattle.swc_put.specs.Answers.{answer_of};
-ghost use Rattle.swc_given.specs.Walk.{found_at, gathered, gathering};
+ghost use Rattle.tree_put.specs.Answers.{answer_of};
+ghost use Rattle.given_rules.specs.Walk.{found_at, gathered, gathering};
 ghost use Rattle.given_globals.specs.Globals.{answers_of};
 
 use given_globals::{Found, Lookup};
 use std::alloc::{AllocError, Global};
 use swc_ast::{ExportNamedSpecifier, Expr, Ident, VarDeclKind, VarDeclarator};
-use swc_put::{Put, Puts, Scope, Spot};
+use tree_put::{Put, Puts, Scope, Spot};
 
 /// Tells the numbers of the values that are met, and lets the tree stay.
 #[derive(Drop)]

@@ -11,7 +11,7 @@ use given_globals::Lookup;
 use std::alloc::{AllocError, Global};
 use swc_ast::Module;
 use swc_levels::{levels_of_expr, levels_of_module};
-use swc_put::put_module;
+use tree_put::put_module;
 
 /// How many levels of expressions and statements there are once what is given is put.
 #[derive(Clone, Copy, Debug, PartialEq, Eq)]

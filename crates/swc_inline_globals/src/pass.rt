@@ -2,8 +2,8 @@
 ghost use Rattle.std.specs.Prelude.{◌≡◌, false, IfOk, IfErr, OnOk, OnErr, Some, None};
 ghost use Rattle.swc_ast.specs.Modules.{module_tree, script_tree};
 ghost use Rattle.swc_pass.specs.Pass.{TellsChange};
-ghost use Rattle.swc_put.specs.Walks.{Makes};
-ghost use Rattle.swc_put.specs.declared.rules.Spot.TheVariants.{Here};
+ghost use Rattle.tree_put.specs.Walks.{Makes};
+ghost use Rattle.tree_put.specs.declared.rules.Spot.TheVariants.{Here};
 ghost use Rattle.given_globals.specs.Globals.{answers_of};
 ghost use Rattle.swc_inline_globals.specs.Answers.{Inlined, Refused};
 ghost use Rattle.swc_inline_globals.specs.Nesting.{TellsOfTree};
@@ -19,7 +19,7 @@ use std::collections::BTreeMap;
 use swc_ast::{Expr, Mark, Module, PassError, Script};
 use swc_expr_map::GlobalExprMap;
 use swc_pass::{Repeated, Whole};
-use swc_put::{Puts, put_module, put_script};
+use tree_put::{Puts, put_module, put_script};
 
 /// What the pass walks: a module or a script.
 trait Walked: Whole {

@@ -3,11 +3,11 @@ ghost use Rattle.std.specs.Prelude.{◌≡◌, IfOk};
 ghost use Rattle.swc_ast.specs.Expressions.{unary_tree};
 ghost use Rattle.swc_ast.specs.Views.{expr_tree};
 ghost use Rattle.swc_pass.specs.Given.{Answers};
-ghost use Rattle.swc_put.specs.Answers.{answer_of};
-ghost use Rattle.swc_put.specs.Still.{still};
+ghost use Rattle.tree_put.specs.Answers.{answer_of};
+ghost use Rattle.tree_put.specs.Still.{still};
 ghost use Rattle.given_shield.specs.Shield.{shield};
-ghost use Rattle.swc_given.specs.Walk.{answer, put_answer};
-ghost use Rattle.swc_given.specs.Worked.{Finished, put_found, put_expression};
+ghost use Rattle.given_rules.specs.Walk.{answer, put_answer};
+ghost use Rattle.given_rules.specs.Worked.{Finished, put_found, put_expression};
 ghost use Rattle.given_globals.specs.Globals.{answers_of};
 ghost use Rattle.given_globals.specs.Rows.{found_of};
 ghost use Rattle.swc_inline_globals.specs.Slots.{slots, types};
@@ -18,7 +18,7 @@ use std::alloc::{AllocError, Global};
 use swc_ast::{
     ExportNamedSpecifier, Expr, Ident, Lit, Str, UnaryExpr, UnaryOp, VarDeclKind, VarDeclarator,
 };
-use swc_put::{Put, Puts, Scope, Spot};
+use tree_put::{Put, Puts, Scope, Spot};
 
 /// Puts what is given: of a value that which was made of it.
 #[derive(Drop)]

@@ -1,8 +1,8 @@
 //! The pass.
 ghost use Rattle.std.specs.Prelude.{◌≡◌, false, codes, refl};
-ghost use Rattle.swc_carry.specs.Carry.{inlines};
-ghost use Rattle.swc_carry_facts.specs.Propagation.{propagation_spec};
-ghost use Rattle.swc_carry_facts.proofs.Lawful.{propagation_lawful};
+ghost use Rattle.carry_rules.specs.Carry.{inlines};
+ghost use Rattle.carry_proofs.specs.Propagation.{propagation_spec};
+ghost use Rattle.carry_proofs.proofs.Lawful.{propagation_lawful};
 
 use carry_parts::Pass as Carried;
 use carry_pass::propagate;

@@ -6,10 +6,10 @@ use Rattle.swc_ast.specs.Tree.{Tree}
 use Rattle.swc_ast.specs.Valid.{valid}
 use Rattle.swc_pass.specs.Chain.{GivesBack, input, other}
 use Rattle.swc_pass.specs.Pass.{SameBare, TellsChange}
-use Rattle.swc_put.specs.Put.{put}
-use Rattle.swc_put.specs.Still.{still}
-use Rattle.swc_put.specs.Walks.{Makes}
-use Rattle.swc_put.specs.declared.rules.Spot.TheVariants.{Here}
+use Rattle.tree_put.specs.Put.{put}
+use Rattle.tree_put.specs.Still.{still}
+use Rattle.tree_put.specs.Walks.{Makes}
+use Rattle.tree_put.specs.declared.rules.Spot.TheVariants.{Here}
 use Rattle.swc_json_parse.specs.Answers.{Parsed, WalkGives}
 use Rattle.swc_json_parse.specs.Parsing.{parsed}
 use Rattle.swc_json_parse.specs.Quick.{quick}

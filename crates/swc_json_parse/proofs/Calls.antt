@@ -7,11 +7,10 @@ use Rattle.std.specs.declared.vec.Vec.{Vec}
 use Rattle.swc_ast.specs.Expressions.{call_node}
 use Rattle.swc_ast.specs.Parts.{list_trees}
 use Rattle.swc_ast.specs.Tree as tree
-use Rattle.swc_ast.specs.Tree.{Tree, node, Forest, ε, ◌⊳◌}
+use Rattle.swc_ast.specs.Tree.{Tree, node, Forest, ε, ◌⊳◌, label_of}
 use Rattle.swc_ast.specs.Views.{expr_tree}
 use Rattle.swc_ast.proofs.ApartExpressions.{ExprForm, expr_form, expr_at}
 use Rattle.swc_ast.proofs.Equations.{expr_tree-Array, expr_tree-Object, expr_tree-Call, expr_tree-Member, expr_tree-Ident, expr_tree-Lit}
-use Rattle.swc_ast.proofs.Labels.{label}
 use Rattle.swc_ast.specs.declared.Span.{Span}
 use Rattle.swc_ast.specs.declared.declarations.Decl.TheOpen as Open
 use Rattle.swc_ast.specs.declared.declarations.Decl.TheViews.{roll-Expr, out-Expr, roll-out-Expr}
@@ -35,7 +34,7 @@ object_span e n is = sym (ap (λ x. literal_span (expr_tree x)) is ∙ ap litera
 abbrev is_list_form : ℕ → Bool
 is_list_form n = (n == 2) || (n == 3)
 
-spanless : (t : Tree) → is_list_form (expr_form (label t)) ≡ false → literal_span t ≡ None
+spanless : (t : Tree) → is_list_form (expr_form (label_of t)) ≡ false → literal_span t ≡ None
 spanless (node (tree.Array ks) ss cs) h = absurd (false≢true (sym h))
 spanless (node tree.Object ss cs) h = absurd (false≢true (sym h))
 spanless (node _ ss cs) h = refl
@@ -47,7 +46,7 @@ no_span e no_array no_object = sym (by_form (out-Expr e) (roll-out-Expr e))
     by_form : (o : ExprForm) → roll-Expr o ≡ e → literal_span (expr_tree e) ≡ None
     by_form (Open.Array n) is = absurd (no_array n (sym is ∙ in_expr.rolls-Array n))
     by_form (Open.Object n) is = absurd (no_object n (sym is ∙ in_expr.rolls-Object n))
-    by_form o is = spanless (expr_tree e) (ap (λ x. is_list_form (expr_form (label (expr_tree x)))) (sym is) ∙ ap is_list_form (expr_at o))
+    by_form o is = spanless (expr_tree e) (ap (λ x. is_list_form (expr_form (label_of (expr_tree x)))) (sym is) ∙ ap is_list_form (expr_at o))
 
 named : (sym_text : String Global) (ctxt : SyntaxContext) (json : Expr) → string_bytes sym_text ≡ codes "JSON" → ctxt.0 ≡ 0 → json ≡ in_expr.Ident (record { span = nowhere; sym = sym_text; ctxt = ctxt }) → expr_tree json ≡ node (tree.Read json_name) (nowhere ∷ []) ε
 named t c json text context is = ap expr_tree is ∙ expr_tree-Ident (record { span = nowhere; sym = t; ctxt = c }) ∙ ap₂ (λ x k. node (tree.Read (record { text = x; context = k })) (nowhere ∷ []) ε) text context

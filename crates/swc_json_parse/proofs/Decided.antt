@@ -6,7 +6,7 @@ use Rattle.serde_json.specs.Read.{max_depth}
 use Rattle.serde_json.specs.Written.{compact_text}
 use Rattle.swc_ast.specs.Tree.{Text, Tree}
 use Rattle.swc_ast.specs.declared.Span.{Span}
-use Rattle.swc_put.specs.Puts.{Answer, enter, stay, become}
+use Rattle.tree_put.specs.Puts.{Answer, enter, stay, become}
 use Rattle.swc_json_parse.specs.JsonText.{data_of, shallow, json_text}
 use Rattle.swc_json_parse.specs.Parsing.{parse_call}
 use Rattle.swc_json_parse.specs.Quick.{quick_call}

@@ -1,36 +1,37 @@
 -- What the walk makes of a tree is resolved, valid and core where the tree is.
 use Rattle.std.proofs.Common.{◌≡◌, ℕ, Bool, true, false, ◌&&◌, if◌then◌else◌, List, [], ◌∷◌, Option, Some, None, refl, sym, ap, subst, ◌∙◌, ◌++◌}
 use Rattle.std.proofs.lemmas.Bool.{false≢true, and_parts}
+use Rattle.swc_ast.specs.Labels.{is_expression}
 use Rattle.swc_ast.specs.Core.{fits, IsCore}
 use Rattle.swc_ast.specs.Expressions.{is_eval, call_node, unary_node}
 use Rattle.swc_ast.specs.Parts.{then_all}
 use Rattle.swc_ast.specs.Resolved.{own_scopes, IsResolved}
 use Rattle.swc_ast.specs.Scope.{vars, joined}
 use Rattle.swc_ast.specs.Tree as tree
-use Rattle.swc_ast.specs.Tree.{Text, Name, Label, Tree, node, Forest, ε, ◌⊳◌}
+use Rattle.swc_ast.specs.Tree.{Text, Name, Label, Tree, node, Forest, ε, ◌⊳◌, label_of}
 use Rattle.swc_ast.specs.Valid.{valid, valid_all, good_names, good_shape, is_word, is_identifier}
 use Rattle.swc_ast.specs.declared.Span.{Span}
 use Rattle.swc_ast.specs.declared.UnaryOp.TheVariants as op
-use Rattle.swc_static.specs.Drawn.{is_expression, Drawn, AllDrawn, nothing_of, all_of, part_of, none_drawn, more_drawn}
-use Rattle.swc_static.specs.Keeps.{Keeps}
-use Rattle.swc_static.specs.Names.{Within, label_of}
-use Rattle.swc_static.specs.Over.{Makes, Over, over_none, over_piece, over_made}
-use Rattle.swc_static.specs.Spares.{Spared, Spares}
-use Rattle.swc_static.specs.Walks.{Walks, AllWalk, inside, then, early, nothing, both}
-use Rattle.swc_static.proofs.Expressions.{expression_quiet}
-use Rattle.swc_static.proofs.Kept.{walk_keeps}
-use Rattle.swc_static.proofs.Names.{within_none}
-use Rattle.swc_static.proofs.Over.{built_keeps}
-use Rattle.swc_static.proofs.Plain.{expression_plain, spares_plain}
-use Rattle.swc_static.proofs.Spared.{walk_spares, spared_none}
-use Rattle.swc_static.proofs.Walked.{walks_itself}
-use Rattle.swc_static.proofs.Whole.{resolved_kept, core_kept}
-use Rattle.swc_put.specs.Put as put
-use Rattle.swc_put.specs.Put.{Step, steps, around, in_turn, chosen}
-use Rattle.swc_put.specs.Puts.{Answer, enter, stay, become}
-use Rattle.swc_put.specs.Still.{still}
-use Rattle.swc_put.specs.declared.rules.Spot.{Spot}
-use Rattle.swc_put.specs.declared.rules.Spot.TheVariants as spot
+use Rattle.static_proofs.specs.Drawn.{Drawn, AllDrawn, nothing_of, all_of, part_of, none_drawn, more_drawn}
+use Rattle.static_proofs.specs.Keeps.{Keeps}
+use Rattle.static_proofs.specs.Names.{Within}
+use Rattle.static_proofs.specs.Over.{Makes, Over, over_none, over_piece, over_made}
+use Rattle.static_proofs.specs.Spares.{Spared, Spares}
+use Rattle.static_proofs.specs.Walks.{Walks, AllWalk, inside, then, early, nothing, both}
+use Rattle.static_proofs.proofs.Expressions.{expression_quiet}
+use Rattle.static_proofs.proofs.Kept.{walk_keeps}
+use Rattle.static_proofs.proofs.Names.{within_none}
+use Rattle.static_proofs.proofs.Over.{built_keeps}
+use Rattle.static_proofs.proofs.Plain.{expression_plain, spares_plain}
+use Rattle.static_proofs.proofs.Spared.{walk_spares, spared_none}
+use Rattle.static_proofs.proofs.Walked.{walks_itself}
+use Rattle.static_proofs.proofs.Whole.{resolved_kept, core_kept}
+use Rattle.tree_put.specs.Put as put
+use Rattle.tree_put.specs.Put.{Step, steps, around, in_turn, chosen}
+use Rattle.tree_put.specs.Puts.{Answer, enter, stay, become}
+use Rattle.tree_put.specs.Still.{still}
+use Rattle.tree_put.specs.declared.rules.Spot.{Spot}
+use Rattle.tree_put.specs.declared.rules.Spot.TheVariants as spot
 use Rattle.swc_json_parse.specs.JsonText.{json_text}
 use Rattle.swc_json_parse.specs.Parsing.{literal_span, first_span, is_list_literal, is_long, call_for, parse_call, parsing, parsed}
 
@@ -223,7 +224,7 @@ mutual
   put_walks : (t : Tree) (s : ℕ) (p : Spot) → Walks Did t (put.put (still parsing) t s p).0
   put_walks (node l ss cs) s p =
       let w : Walks Did (node l ss cs) (around (still parsing) s l ss cs (steps (still parsing) cs)).0 = around_walks s l ss cs (steps_go cs) in
-      if_walks (node l ss cs) (put.is_expression l) _ _ (chosen_walks s l ss cs (around (still parsing) s l ss cs (steps (still parsing) cs)) w) w
+      if_walks (node l ss cs) (is_expression l) _ _ (chosen_walks s l ss cs (around (still parsing) s l ss cs (steps (still parsing) cs)) w) w
 
   steps_go : (ts : Forest) → Going ts (steps (still parsing) ts)
   steps_go ε = no_more

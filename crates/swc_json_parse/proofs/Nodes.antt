@@ -10,14 +10,13 @@ use Rattle.json.specs.Print.{quoted}
 use Rattle.serde_json.specs.Data.{Data, Num, unsigned, negative, number, depth}
 use Rattle.serde_json.specs.Written.{compact_text}
 use Rattle.swc_ast.specs.Tree as tree
-use Rattle.swc_ast.specs.Tree.{Name, Text, Tree, node, Forest, ε, ◌⊳◌}
+use Rattle.swc_ast.specs.Tree.{Name, Text, Tree, node, Forest, ε, ◌⊳◌, label_of}
 use Rattle.swc_ast.specs.Expressions.{key_value_tree, array_tree, object_tree, tpl_tree, quasi_text}
 use Rattle.swc_ast.proofs.Equations.{expr_tree-Lit, expr_tree-Tpl, expr_tree-Array, expr_tree-Object, prop_or_spread_tree-Spread, prop_or_spread_tree-Prop, prop_tree-KeyValue, prop_tree-Shorthand, prop_tree-Method, method_tree-is}
 use Rattle.swc_ast.specs.Parts.{lit_tree, list_trees}
 use Rattle.swc_ast.specs.declared.Span.{Span}
 use Rattle.swc_ast.specs.Views.{expr_tree, prop_tree, prop_or_spread_tree}
 use Rattle.swc_ast.proofs.ApartExpressions.{ExprForm, expr_form, expr_number, expr_at}
-use Rattle.swc_ast.proofs.Labels.{label}
 use Rattle.swc_ast.specs.declared.declarations.Decl.TheOpen as Open
 use Rattle.swc_ast.specs.declared.declarations.Decl.TheViews.{roll-Expr, out-Expr, roll-out-Expr}
 use Rattle.swc_ast.specs.declared.expressions.ArrayLit.{ArrayLit}
@@ -38,7 +37,7 @@ use Rattle.swc_ast.specs.declared.expressions.Tpl.{Tpl}
 use Rattle.swc_ast.specs.declared.expressions.TplElement.{TplElement}
 use Rattle.swc_ast.specs.declared.literals.Lit.{Lit}
 use Rattle.swc_ast.specs.declared.literals.Lit.TheVariants as lit
-use Rattle.swc_keys.specs.Keys.{plain_key}
+use Rattle.tree_keys.specs.Keys.{plain_key}
 use Rattle.swc_json_parse.specs.JsonText.{data_of, whole}
 use Rattle.swc_json_parse.specs.Written.{text_within, member_within, lit_text, number_text}
 
@@ -56,7 +55,7 @@ member_keyed levels n = by_key n.key
 abbrev is_json : ℕ → Bool
 is_json n = (n == 2) || (n == 3) || (n == 15) || (n == 16)
 
-no_data : (t : Tree) → is_json (expr_form (label t)) ≡ false → data_of t ≡ None
+no_data : (t : Tree) → is_json (expr_form (label_of t)) ≡ false → data_of t ≡ None
 no_data (node (tree.StrLit t) ss cs) h = absurd (false≢true (sym h))
 no_data (node (tree.Template qs) ss cs) h = absurd (false≢true (sym h))
 no_data (node (tree.NumLit z) ss cs) h = absurd (false≢true (sym h))
@@ -75,7 +74,7 @@ no_text levels e no_lit no_tpl no_array no_object = ap (λ o. option_and_then (�
     by_form (Open.Tpl n) is = absurd (no_tpl n (sym is ∙ in_expr.rolls-Tpl n))
     by_form (Open.Array n) is = absurd (no_array n (sym is ∙ in_expr.rolls-Array n))
     by_form (Open.Object n) is = absurd (no_object n (sym is ∙ in_expr.rolls-Object n))
-    by_form o is = no_data (expr_tree e) (ap (λ x. is_json (expr_form (label (expr_tree x)))) (sym is) ∙ ap is_json (expr_at o))
+    by_form o is = no_data (expr_tree e) (ap (λ x. is_json (expr_form (label_of (expr_tree x)))) (sym is) ∙ ap is_json (expr_at o))
 
 -- nothing nests less deep than at no level
 pub zero_below : (n : ℕ) → nat_le 0 n ≡ true

@@ -6,15 +6,16 @@ use mathlib.Core.Path.{fun_ext}
 use Rattle.serde_json.specs.Data.{Data, depth}
 use Rattle.serde_json.specs.Read.{max_depth}
 use Rattle.serde_json.specs.Written.{compact_text}
+use Rattle.swc_ast.specs.Labels.{is_expression}
 use Rattle.swc_ast.specs.Tree as tree
 use Rattle.swc_ast.specs.Tree.{Text, Label, Tree, node, Forest, ε, ◌⊳◌}
 use Rattle.swc_ast.specs.declared.Span.{Span}
 use Rattle.swc_ast.specs.declared.UnaryOp.TheVariants as op
-use Rattle.swc_put.specs.Put.{Step, put, put_parts, steps, around, chosen, is_expression}
-use Rattle.swc_put.specs.Puts.{Answer, enter, stay, become}
-use Rattle.swc_put.specs.Still.{still, put_still}
-use Rattle.swc_put.specs.declared.rules.Spot.TheVariants as spot
-use Rattle.swc_put.specs.declared.rules.Spot.{Spot}
+use Rattle.tree_put.specs.Put.{Step, put, put_parts, steps, around, chosen}
+use Rattle.tree_put.specs.Puts.{Answer, enter, stay, become}
+use Rattle.tree_put.specs.Still.{still, put_still}
+use Rattle.tree_put.specs.declared.rules.Spot.TheVariants as spot
+use Rattle.tree_put.specs.declared.rules.Spot.{Spot}
 use Rattle.swc_json_parse.specs.JsonText.{data_of, shallow, json_text}
 use Rattle.swc_json_parse.specs.Parsing.{literal_span, call_for, is_long, parse_call, parsing, parsed}
 use Rattle.swc_json_parse.specs.Quick.{quick_call, quick}

@@ -6,17 +6,18 @@ use Rattle.json.specs.Print.{quoted}
 use Rattle.serde_json.specs.Data.{Data, array, object, Items, no_items, item, Members, no_members, member, depth}
 use Rattle.serde_json.specs.Read.{max_depth}
 use Rattle.serde_json.specs.Written.{compact_text, items_text, members_text, comma_if}
+use Rattle.swc_ast.specs.Labels.{is_expression}
 use Rattle.swc_ast.specs.Meaning.{key_name}
 use Rattle.swc_ast.specs.Tree as tree
-use Rattle.swc_ast.specs.Tree.{Text, KeyValue, PlainKey, Tree, node, Forest, ε, ◌⊳◌}
+use Rattle.swc_ast.specs.Tree.{Text, KeyValue, PlainKey, Tree, node, Forest, ε, ◌⊳◌, label_of}
 use Rattle.swc_ast.specs.declared.Span.{Span}
-use Rattle.swc_put.specs.Put.{put, put_parts, steps, around, in_turn, under, chosen, is_expression}
-use Rattle.swc_put.specs.Puts.{Answer, enter, become}
-use Rattle.swc_put.specs.Still.{still}
-use Rattle.swc_put.specs.declared.rules.Spot.{Spot}
-use Rattle.swc_put.specs.declared.rules.Spot.TheVariants as spot
-use Rattle.swc_put.proofs.Putting.{label, asked}
-use Rattle.swc_keys.specs.Keys.{are_keys, keys_of}
+use Rattle.tree_put.specs.Put.{put, put_parts, steps, around, in_turn, under, chosen}
+use Rattle.tree_put.specs.Puts.{Answer, enter, become}
+use Rattle.tree_put.specs.Still.{still}
+use Rattle.tree_put.specs.declared.rules.Spot.{Spot}
+use Rattle.tree_put.specs.declared.rules.Spot.TheVariants as spot
+use Rattle.tree_put.proofs.Putting.{asked}
+use Rattle.tree_keys.specs.Keys.{are_keys, keys_of}
 use Rattle.swc_json_parse.specs.JsonText.{data_of, items_of, members_of, all_plain, shallow, json_text}
 use Rattle.swc_json_parse.specs.Parsing.{literal_span, call_for, is_long, parse_call, parsing}
 
@@ -63,7 +64,7 @@ short_enters least (Some s) d h = by_depth (nat_le (depth d) max_depth)
     by_depth false = refl
 
 -- data are of expressions
-data_expression : (t : Tree) (d : Data) → data_of t ≡ Some d → is_expression (label t) ≡ true
+data_expression : (t : Tree) (d : Data) → data_of t ≡ Some d → is_expression (label_of t) ≡ true
 data_expression (node (tree.StrLit x) ss cs) d h = refl
 data_expression (node (tree.Template qs) ss cs) d h = refl
 data_expression (node (tree.NumLit z) ss cs) d h = refl

@@ -15,7 +15,7 @@ use Rattle.swc_ast.specs.declared.expressions.Expr.{Expr}
 use Rattle.swc_ast.specs.declared.expressions.ExprOrSpread.{ExprOrSpread}
 use Rattle.swc_ast.specs.declared.expressions.ObjectLit.{ObjectLit}
 use Rattle.swc_ast.specs.declared.expressions.PropOrSpread.{PropOrSpread}
-use Rattle.swc_keys.specs.Keys.{are_keys, keys_of}
+use Rattle.tree_keys.specs.Keys.{are_keys, keys_of}
 use Rattle.swc_json_parse.specs.JsonText.{data_of, items_of, members_of, all_plain}
 use Rattle.swc_json_parse.specs.Written.{text_within, items_within, elements_within, members_within, member_within}
 use Rattle.swc_json_parse.proofs.Nodes.{zero_below}

@@ -2,10 +2,10 @@
 use Rattle.std.specs.Prelude.{ℕ, ◌+◌, ◌^◌, nat_le, nat_lt, Bool, true, false, ◌&&◌, if◌then◌else◌, List, [], ◌∷◌, length, Option, Some, None, codes}
 use Rattle.swc_ast.specs.declared.Span.{Span}
 use Rattle.swc_ast.specs.Tree.{Text, Name, Label, StrLit, Read, Array, Object, CallDot, Tree, node, ε, ◌⊳◌}
-use Rattle.swc_put.specs.Puts.{Answer, enter, become}
-use Rattle.swc_put.specs.Still.{put_still}
-use Rattle.swc_put.specs.declared.rules.Spot.{Spot}
-use Rattle.swc_put.specs.declared.rules.Spot.TheVariants.{Here}
+use Rattle.tree_put.specs.Puts.{Answer, enter, become}
+use Rattle.tree_put.specs.Still.{put_still}
+use Rattle.tree_put.specs.declared.rules.Spot.{Spot}
+use Rattle.tree_put.specs.declared.rules.Spot.TheVariants.{Here}
 use Rattle.swc_json_parse.specs.JsonText.{json_text}
 
 abbrev pub nowhere : Span

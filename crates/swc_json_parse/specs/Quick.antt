@@ -2,8 +2,8 @@
 use Rattle.std.specs.Prelude.{ℕ, ◌+◌, ◌^◌, nat_le, nat_lt, if◌then◌else◌, length, Option, Some, None}
 use Rattle.swc_ast.specs.declared.Span.{Span}
 use Rattle.swc_ast.specs.Tree.{Text, Tree}
-use Rattle.swc_put.specs.Puts.{Answer, enter, stay, become}
-use Rattle.swc_put.specs.declared.rules.Spot.{Spot}
+use Rattle.tree_put.specs.Puts.{Answer, enter, stay, become}
+use Rattle.tree_put.specs.declared.rules.Spot.{Spot}
 use Rattle.swc_json_parse.specs.JsonText.{json_text}
 use Rattle.swc_json_parse.specs.Parsing.{parse_call, literal_span}
 

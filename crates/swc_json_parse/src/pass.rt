@@ -4,13 +4,13 @@ ghost use Rattle.swc_ast.specs.Modules.{module_tree, script_tree};
 ghost use Rattle.swc_ast.specs.Views.{expr_tree};
 ghost use Rattle.swc_ast.specs.declared.errors.PassError.TheVariants.{OutOfMemory};
 ghost use Rattle.swc_pass.specs.Pass.{TellsChange};
-ghost use Rattle.swc_put.specs.Answers.{answer_of};
-ghost use Rattle.swc_put.specs.Still.{still};
+ghost use Rattle.tree_put.specs.Answers.{answer_of};
+ghost use Rattle.tree_put.specs.Still.{still};
 ghost use Rattle.swc_json_parse.specs.JsonText.{json_text};
 ghost use Rattle.swc_json_parse.specs.Parsing.{parsed};
 ghost use Rattle.swc_json_parse.specs.Answers.{Parsed, WalkGives};
 ghost use Rattle.swc_json_parse.specs.Quick.{quick, quick_call};
-ghost use Rattle.swc_put.specs.declared.rules.Spot.TheVariants.{Here};
+ghost use Rattle.tree_put.specs.declared.rules.Spot.TheVariants.{Here};
 
 use crate::call::{literal_span, parse_call};
 use crate::sink::{Length, Written};
@@ -20,7 +20,7 @@ use swc_ast::{
     ExportNamedSpecifier, Expr, Ident, Module, PassError, Script, Span, VarDeclKind, VarDeclarator,
 };
 use swc_pass::{Repeated, Whole};
-use swc_put::{Put, Puts, Scope, Spot, put_module, put_script};
+use tree_put::{Put, Puts, Scope, Spot, put_module, put_script};
 
 /// The deepest nesting that `serde_json` reads.
 const MAX_LEVELS: usize = 127;

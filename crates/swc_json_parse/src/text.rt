@@ -5,7 +5,7 @@ ghost use Rattle.swc_ast.specs.Expressions.{array_tree, object_tree, tpl_tree, k
 ghost use Rattle.swc_ast.specs.Views.{expr_tree, prop_or_spread_tree};
 ghost use Rattle.json.specs.Print.{quoted};
 ghost use Rattle.serde_json.specs.Written.{comma_if};
-ghost use Rattle.swc_keys.specs.Keys.{plain_key};
+ghost use Rattle.tree_keys.specs.Keys.{plain_key};
 ghost use Rattle.swc_json_parse.specs.Written.{Wrote, number_text, lit_text, text_within, elements_within, members_within, member_within};
 
 use crate::sink::Out;
@@ -14,7 +14,7 @@ use std::alloc::{AllocError, Global};
 use swc_ast::{
     ArrayLit, Expr, ExprOrSpread, KeyValueProp, Lit, ObjectLit, Prop, PropName, PropOrSpread, Tpl,
 };
-use swc_keys::are_keys;
+use tree_keys::are_keys;
 
 /// Writes a comma where something stands in front.
 fn write_comma<O: Out>(later: bool, out: &mut O) -> Result<(), AllocError>

@@ -2,12 +2,12 @@
 ghost use Rattle.std.specs.Prelude.{◌≡◌, ◌+◌, ◌<◌, None, IfSome};
 ghost use Rattle.swc_ast.specs.Modules.{module_tree};
 ghost use Rattle.swc_ast.specs.Views.{expr_tree};
-ghost use Rattle.swc_visit.specs.Kinds.{kind_label};
-ghost use Rattle.swc_visit.specs.Nodes.{children_forest};
+ghost use Rattle.tree_visit.specs.Kinds.{kind_label};
+ghost use Rattle.tree_visit.specs.Nodes.{children_forest};
 ghost use Rattle.swc_levels.specs.Levels.{levels, own_levels as tree_own_levels, deepest, Counts};
 
 use swc_ast::{Expr, Module};
-use swc_visit::{Kind, Node, Opened, open_expr};
+use tree_visit::{Kind, Node, Opened, open_expr};
 
 /// Returns how many expressions and statements of an expression stand inside one another, the innermost among them: `None` where
 /// they are more than `most`.

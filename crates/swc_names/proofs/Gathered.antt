@@ -4,10 +4,9 @@ use Rattle.std.proofs.lemmas.List.{append_assoc, append-nil}
 use Rattle.std.specs.Prelude.{if◌then◌else◌}
 use Rattle.swc_ast.specs.declared.VarDeclKind.TheVariants.{Var, Let, Const}
 use Rattle.swc_ast.specs.Tree as tree
-use Rattle.swc_ast.specs.Tree.{Name, Label, Tree, node, Forest, ε, ◌⊳◌}
+use Rattle.swc_ast.specs.Tree.{Name, Label, Tree, node, Forest, ε, ◌⊳◌, label_of, children_of}
 use Rattle.swc_ast.specs.Scope.{vars, vars_all, own_vars, holds_statements}
-use Rattle.swc_visit.specs.Nodes.{label_of, children_of}
-use Rattle.swc_visit.proofs.Caps.{forest_size}
+use Rattle.tree_visit.proofs.Caps.{forest_size}
 use Rattle.swc_names.specs.declared.gather.Choice.{Choice}
 use Rattle.swc_names.specs.declared.gather.Choice.TheVariants as choice
 use Rattle.swc_names.specs.Names.{front_names, behind_names, enters, opened_names, names_in, names_among}

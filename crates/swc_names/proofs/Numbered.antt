@@ -9,7 +9,7 @@ use Rattle.std.specs.Borrow.{Bor}
 use Rattle.std.specs.Slice.{IsItemAt}
 use Rattle.std.specs.Prelude.{unwrap_or, option_map, option_copied, IfSome}
 use Rattle.swc_ast.specs.Tree.{Name, same_name}
-use Rattle.swc_static.proofs.Names.{same_name_path, same_name_itself, same_name_swap}
+use Rattle.static_proofs.proofs.Names.{same_name_path, same_name_itself, same_name_swap}
 use Rattle.swc_names.specs.Ids.{Id, id_name, ids}
 use Rattle.swc_names.proofs.Distinct.{same_id}
 

@@ -2,15 +2,15 @@
 ghost use Rattle.std.specs.Prelude.{◌≡◌, ◌++◌, IfOk, OnOk, []};
 ghost use Rattle.swc_ast.specs.Modules.{item_tree};
 ghost use Rattle.swc_ast.specs.Parts.{list_trees};
-ghost use Rattle.swc_visit.specs.Kinds.{kind_label};
-ghost use Rattle.swc_visit.specs.Nodes.{Opens, children_forest};
+ghost use Rattle.tree_visit.specs.Kinds.{kind_label};
+ghost use Rattle.tree_visit.specs.Nodes.{Opens, children_forest};
 ghost use Rattle.swc_names.specs.Ids.{idents as idents_of, optional};
 ghost use Rattle.swc_names.specs.Names.{own_name as label_name, handler_name as label_handler, binds as label_binds, is_var as label_is_var, asks, enters, front_names, behind_names, opened_names, names_among};
 
 use std::alloc::{AllocError, Global};
 use stmt_like::StmtLike;
 use swc_ast::{Ident, VarDeclKind};
-use swc_visit::{Kind, Opened, open_module_decl, open_stmt};
+use tree_visit::{Kind, Opened, open_module_decl, open_stmt};
 
 /// Which names of a tree are asked for.
 #[derive(Clone, Copy)]

@@ -4,10 +4,9 @@ ghost use Rattle.swc_ast.specs.Expressions.{param_tree};
 ghost use Rattle.swc_ast.specs.Modules.{item_tree};
 ghost use Rattle.swc_ast.specs.Parts.{ident_name, list_trees};
 ghost use Rattle.swc_ast.specs.Scope.{has_name, param_names, vars_all};
-ghost use Rattle.swc_ast.specs.Tree.{Name, Param};
+ghost use Rattle.swc_ast.specs.Tree.{Name, Param, label_of};
 ghost use Rattle.swc_ast.specs.Views.{expr_tree, stmt_tree};
 ghost use Rattle.swc_ast.specs.declared.errors.PassError.TheVariants.{OutOfMemory};
-ghost use Rattle.swc_visit.specs.Nodes.{label_of};
 ghost use Rattle.swc_names.specs.Ids.{ids as ids_of, idents};
 ghost use Rattle.swc_names.specs.Names.{bound};
 

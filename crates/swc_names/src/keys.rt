@@ -4,7 +4,7 @@ ghost use Rattle.swc_ast.specs.Parts.{ident_name};
 ghost use Rattle.swc_names.specs.Ids.{key_name, id_name};
 ghost use Rattle.std.proofs.Common.{ap};
 ghost use Rattle.std.specs.Hash as fed;
-ghost use Rattle.swc_static.proofs.Names.{same_name_path};
+ghost use Rattle.static_proofs.proofs.Names.{same_name_path};
 ghost use Rattle.swc_ast.specs.Tree.{same_name};
 
 use indexmap::Equivalent;

@@ -3,13 +3,13 @@ use Rattle.std.proofs.Common.{ℕ, zero, suc, ◌<◌, false, refl, sym, subst, 
 use Rattle.swc_ast.specs.Modules.{module_tree}
 use Rattle.swc_ast.specs.Tree.{Module, Tree, node}
 use Rattle.swc_ast.specs.declared.modules.Module.{Module as TheModule}
-use Rattle.swc_static.specs.Shaped.{IsShaped}
-use Rattle.swc_static.proofs.ShapedViews.{module_shaped}
+use Rattle.static_proofs.specs.Shaped.{IsShaped}
+use Rattle.static_proofs.proofs.ShapedViews.{module_shaped}
 use Rattle.swc_pass.specs.Repeat.{Rounds, none}
 use Rattle.swc_dce.specs.Peeling.{PeelsModule, PeeledBy}
 use Rattle.swc_dce.specs.Shaken.{Told}
-use Rattle.round_laws.specs.Rested.{AtRest, Rested}
-use Rattle.round_laws.proofs.Rounds.{layers_are_rounds, layers_leave_rest}
+use Rattle.round_proofs.specs.Rested.{AtRest, Rested}
+use Rattle.round_proofs.proofs.Rounds.{layers_are_rounds, layers_leave_rest}
 
 module _ (told : Told) (n : ℕ) (t u : Tree) (s : IsShaped t) (a : AtRest told t) where
   -- some rounds of a tree

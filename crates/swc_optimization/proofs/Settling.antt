@@ -5,14 +5,14 @@ use Rattle.swc_ast.specs.Marks.{mark_number}
 use Rattle.swc_ast.specs.Redex.{is_delete}
 use Rattle.swc_ast.specs.Tree.{Label, Unary, Binary, Cond, Tree, node, Forest, ε, ◌⊳◌}
 use Rattle.swc_ast.specs.Valid.{valid}
-use Rattle.swc_static.specs.Free.{fold_redex, has_kind, any_kind}
-use Rattle.swc_static.proofs.Free.{free_of_both}
+use Rattle.static_proofs.specs.Free.{fold_redex, has_kind, any_kind}
+use Rattle.static_proofs.proofs.Free.{free_of_both}
 use Rattle.expr_rules.specs.Replaced.{expr_redex}
 use Rattle.swc_pass.specs.Repeat.{Rounds, last}
 use Rattle.swc_expr.specs.Simplified.{Simplified}
 use Rattle.swc_branch.specs.Removed.{Removed}
 use Rattle.swc_dce.specs.Shaken.{Told, Shaken}
-use Rattle.round_laws.specs.Rested.{Rested}
+use Rattle.round_proofs.specs.Rested.{Rested}
 use Rattle.swc_optimization.specs.Simplifier.{Round, Settled}
 use Rattle.swc_optimization.proofs.Exact.{not_heavier, unchanged}
 use Rattle.swc_optimization.proofs.Rows.{simplify_settles, remove_settles, shake_settles}

@@ -13,7 +13,7 @@ use Rattle.swc_pass.specs.RepeatLaws.{round_on, round_last}
 use Rattle.swc_expr.specs.Simplified.{Simplified, simplify_lawful}
 use Rattle.swc_branch.specs.Removed.{Removed, remove_lawful}
 use Rattle.swc_dce.specs.Shaken.{Told, Shaken, shake_lawful}
-use Rattle.round_laws.specs.Rested.{AtRest, Rested}
+use Rattle.round_proofs.specs.Rested.{AtRest, Rested}
 use Rattle.swc_optimization.specs.Simplifier.{Round}
 use Rattle.swc_optimization.specs.Turns.{Cleared, Turned}
 use Rattle.swc_optimization.proofs.Exact.{not_heavier, unchanged}

@@ -7,7 +7,7 @@ use Rattle.swc_ast.specs.Resolved.{IsResolved}
 use Rattle.swc_ast.specs.Run.{Same}
 use Rattle.swc_ast.specs.Tree.{Tree}
 use Rattle.swc_ast.specs.Valid.{valid}
-use Rattle.swc_meaning.proofs.Observations.{same_trans}
+use Rattle.meaning_proofs.proofs.Observations.{same_trans}
 use Rattle.swc_pass.specs.ChainLaws.{lighter_on}
 use Rattle.swc_pass.specs.Pass.{PassSpec, IsLawful}
 use Rattle.swc_pass.specs.Repeat.{Rounded, repeated}

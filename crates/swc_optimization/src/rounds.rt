@@ -5,7 +5,7 @@ ghost use Rattle.swc_pass.specs.Pass.{TellsChange};
 ghost use Rattle.swc_pass.specs.Repeat.{Rounds, Rounded};
 ghost use Rattle.swc_dce.specs.Configured.{told};
 ghost use Rattle.swc_dce.specs.Shaken.{Shaken};
-ghost use Rattle.round_laws.specs.Rested.{AtRest, Rested};
+ghost use Rattle.round_proofs.specs.Rested.{AtRest, Rested};
 ghost use Rattle.swc_optimization.specs.Simplifier.{round_spec};
 ghost use Rattle.swc_optimization.specs.Turns.{Cleared, Turned};
 

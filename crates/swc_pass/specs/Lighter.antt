@@ -2,7 +2,7 @@
 use Rattle.std.proofs.Common.{Bool, true, false, ◌≡◌, ◌<◌, ◌||◌, refl, ap, ◌∙◌, sym, subst, arith, ◌⊎◌, inl, inr}
 use Rattle.swc_ast.specs.Tree.{Tree, bare}
 use Rattle.swc_ast.specs.Weight.{weight}
-use Rattle.swc_static.proofs.Bare.{weight_bare}
+use Rattle.static_proofs.proofs.Bare.{weight_bare}
 use Rattle.swc_pass.specs.Pass.{PassSpec, IsLawful, SameBare, TellsChange}
 use Rattle.swc_pass.specs.Chain.{GivesBack, input, other}
 

@@ -8,7 +8,7 @@ use Rattle.swc_ast.specs.Resolved.{IsResolved}
 use Rattle.swc_ast.specs.Core.{IsCore}
 use Rattle.swc_ast.specs.Weight.{weight}
 use Rattle.swc_ast.specs.Run.{Same}
-use Rattle.swc_meaning.proofs.Observations.{same_itself, same_trans}
+use Rattle.meaning_proofs.proofs.Observations.{same_itself, same_trans}
 use Rattle.swc_pass.specs.Pass.{PassSpec, IsFor, IsLawful, SameBare, TellsChange}
 use Rattle.swc_pass.specs.Chain.{GivesBack}
 use Rattle.swc_pass.specs.ChainLaws.{given, lighter_on}

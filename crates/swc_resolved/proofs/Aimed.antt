@@ -2,9 +2,9 @@
 use Rattle.std.proofs.Common.{◌≡◌, ◌<◌, List, [], ◌∷◌, length, map, refl, ap, arith}
 use Rattle.swc_ast.specs.Tree.{Text}
 use Rattle.swc_ast.specs.Resolved.{Targets, below}
-use Rattle.swc_visit.specs.Kinds.{kind_label}
-use Rattle.swc_visit.specs.declared.kind.Kind.{Kind}
-use Rattle.swc_visit.specs.declared.kind.Kind.TheVariants as kind
+use Rattle.tree_visit.specs.Kinds.{kind_label}
+use Rattle.tree_visit.specs.declared.kind.Kind.{Kind}
+use Rattle.tree_visit.specs.declared.kind.Kind.TheVariants as kind
 
 abbrev pub plain : Targets → Targets
 plain g = record { labels = g.labels; loops = g.loops; can_break = g.can_break; can_continue = g.can_continue; own = [] }

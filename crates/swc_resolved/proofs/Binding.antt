@@ -5,12 +5,11 @@ use Rattle.std.proofs.lemmas.Result.{IfOk-weaker}
 use Rattle.std.specs.List.{list_any}
 use Rattle.std.specs.Prelude.{if◌then◌else◌, Result, IfOk}
 use Rattle.swc_ast.specs.Tree as tree
-use Rattle.swc_ast.specs.Tree.{Name, same_name, Label, Tree, node, Forest, ε, ◌⊳◌}
+use Rattle.swc_ast.specs.Tree.{Name, same_name, Label, Tree, node, Forest, ε, ◌⊳◌, label_of, children_of}
 use Rattle.swc_ast.specs.Scope.{is_function, has_name, is_found, vars_all, declared, body_declares, module_binds, import_names, param_names, case_statements}
 use Rattle.swc_ast.specs.Meaning.{head_names, first_tree}
 use Rattle.swc_ast.specs.Resolved.{one_if, catch_name, has_default, params_of, body_of, first_names, declared_names, function_scopes, own_scopes, scopes, scopes_all}
-use Rattle.swc_static.proofs.Names.{same_name_path, same_name_itself, has_name_append, found_first}
-use Rattle.swc_visit.specs.Nodes.{label_of, children_of}
+use Rattle.static_proofs.proofs.Names.{same_name_path, same_name_itself, has_name_append, found_first}
 use Rattle.swc_resolved.specs.declared.names.Name.{Name as Key}
 use Rattle.swc_resolved.specs.Names.{names}
 use Rattle.swc_resolved.specs.Scopes.{own_names, opens_scope, Binds}

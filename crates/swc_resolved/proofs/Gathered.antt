@@ -6,13 +6,12 @@ use Rattle.std.specs.Prelude.{if◌then◌else◌}
 use Rattle.swc_ast.specs.declared.Span.{Span}
 use Rattle.swc_ast.specs.declared.VarDeclKind.TheVariants.{Var, Let, Const}
 use Rattle.swc_ast.specs.Tree as tree
-use Rattle.swc_ast.specs.Tree.{Name, Label, Tree, node, Forest, ε, ◌⊳◌}
+use Rattle.swc_ast.specs.Tree.{Name, Label, Tree, node, Forest, ε, ◌⊳◌, label_of, children_of}
 use Rattle.swc_ast.specs.Scope.{vars, vars_all, own_vars, holds_statements, declared, declared_by, declared_by_label, as_lexicals, declarator_name, declarator_names, param_name, imported_name, specifier_names, import_names_of, body_statements, case_statements, joined}
 use Rattle.swc_ast.specs.Meaning.{head_names, first_tree}
 use Rattle.swc_ast.specs.Resolved.{first_names}
-use Rattle.swc_static.proofs.Names.{first_names_append}
-use Rattle.swc_visit.specs.Nodes.{label_of, children_of}
-use Rattle.swc_visit.proofs.Caps.{tree_size, forest_size}
+use Rattle.static_proofs.proofs.Names.{first_names_append}
+use Rattle.tree_visit.proofs.Caps.{tree_size, forest_size}
 use Rattle.swc_resolved.specs.declared.declared.Part.{Part}
 use Rattle.swc_resolved.specs.declared.declared.Part.TheVariants as part
 use Rattle.swc_resolved.specs.Parts.{tree_names, forest_names, label_names, is_lexical, is_import, is_case_body, is_export, declaring}

@@ -3,10 +3,9 @@ use Rattle.std.proofs.Common.{◌≡◌, ℕ, ◌+◌, Bool, true, false, refl, 
 use Rattle.std.proofs.lemmas.Bool.{false≢true, and_parts}
 use Rattle.std.proofs.lemmas.Result.{IfOk-weaker}
 use Rattle.std.specs.Prelude.{◌&&◌, if◌then◌else◌, Result, IfOk}
-use Rattle.swc_ast.specs.Tree.{Name, Label, Tree, node, Forest, ε, ◌⊳◌}
+use Rattle.swc_ast.specs.Tree.{Name, Label, Tree, node, Forest, ε, ◌⊳◌, label_of, children_of}
 use Rattle.swc_ast.specs.Resolved.{Targets, below, jump_is_aimed, aimed, aimed_all, apart, apart_all, one_if, own_scopes, scopes, scopes_all}
 use Rattle.swc_ast.specs.Valid.{good_names, good_shape, valid, valid_all}
-use Rattle.swc_visit.specs.Nodes.{label_of, children_of}
 use Rattle.swc_resolved.specs.Scopes.{own_apart, Binds}
 use Rattle.swc_resolved.specs.Here.{own_core, core_here, all_core_here}
 use Rattle.swc_resolved.specs.Asked.{own_fit, own_good, good, good_all, Passes}

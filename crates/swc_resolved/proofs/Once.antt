@@ -6,7 +6,7 @@ use Rattle.std.proofs.Math.Dec.{leb-suc-suc, leb-suc-zero}
 use Rattle.swc_ast.specs.Tree.{Name, same_name}
 use Rattle.swc_ast.specs.Core.{times_in, once_each, none_in}
 use Rattle.swc_ast.specs.Scope.{has_name}
-use Rattle.swc_static.proofs.Names.{same_name_itself, same_name_swap, has_times, none_said, none_show}
+use Rattle.static_proofs.proofs.Names.{same_name_itself, same_name_swap, has_times, none_said, none_show}
 use Rattle.swc_resolved.specs.Names.{name, names}
 use Rattle.swc_resolved.specs.declared.names.Name as key
 use Rattle.swc_resolved.proofs.Sets.{or_turned}

@@ -7,15 +7,15 @@ use Rattle.std.specs.Prelude.{Some, None}
 use Rattle.swc_ast.specs.declared.Span.{Span}
 use Rattle.swc_ast.specs.declared.VarDeclKind.{VarDeclKind}
 use Rattle.swc_ast.specs.declared.VarDeclKind.TheVariants.{Var, Let, Const}
-use Rattle.swc_ast.specs.Tree.{Name, Label, Fn, Arrow, Method, FnDecl, ExportDefaultFn, ExportDecl, Import, ImportNamed, ImportDefault, ImportStar, If, While, DoWhile, For, Labeled, Try, Params, Param, Body, Block, Switch, CaseBody, VarDecl, Declarator, Module, Script, Tree, node, Forest, ε, ◌⊳◌}
+use Rattle.swc_ast.specs.Tree.{Name, Label, Fn, Arrow, Method, FnDecl, ExportDefaultFn, ExportDecl, Import, ImportNamed, ImportDefault, ImportStar, If, While, DoWhile, For, Labeled, Try, Params, Param, Body, Block, Switch, CaseBody, VarDecl, Declarator, Module, Script, Tree, node, Forest, ε, ◌⊳◌, label_of}
 use Rattle.swc_ast.specs.Core.{numbers_fit, list_names, none_in, good_scope, fits, fits_all}
 use Rattle.swc_ast.specs.Meaning.{head_names, first_tree}
 use Rattle.swc_ast.specs.Resolved.{first_names, one_if, has_default, params_of, body_of, function_scopes, own_scopes, scopes, scopes_all, IsResolved}
 use Rattle.swc_ast.specs.Scope.{has_name, option_name, own_vars, holds_statements, vars, vars_all, declared, list_binds, is_found, param_names, body_declares, import_names, module_binds, body_statements, case_statements}
-use Rattle.swc_static.specs.Names.{label_of}
-use Rattle.swc_static.specs.Shaped.{is_inner, is_declared, is_statement, is_whole_item, is_block_or_inner, is_case_or_inner, is_head, is_body_or_inner, is_params, is_body, is_param, is_declarator_of, is_specifier, is_one_declaration, are_loop_parts, labels_of, all_labels, are_parts, are_method_parts, holds, is_shaped, are_shaped}
-use Rattle.swc_static.proofs.Names.{found_first, has_name_append, none_show}
-use Rattle.swc_static.proofs.Parts.{vars_joined}
+use Rattle.swc_ast.specs.Labels.{is_declaration, is_params, is_body, is_param}
+use Rattle.static_proofs.specs.Shaped.{is_inner, is_statement, is_whole_item, is_block_or_inner, is_case_or_inner, is_head, is_body_or_inner, is_declarator_of, is_specifier, is_one_declaration, are_loop_parts, labels_of, all_labels, are_parts, are_method_parts, holds, is_shaped, are_shaped}
+use Rattle.static_proofs.proofs.Names.{found_first, has_name_append, none_show}
+use Rattle.static_proofs.proofs.Parts.{vars_joined}
 use Rattle.swc_resolved.specs.Here.{distinct, named_once, core_here, all_core_here}
 
 grouped : (a b c : Bool) → (a && (b && c)) ≡ ((a && b) && c)
@@ -24,11 +24,11 @@ grouped false b c = refl
 
 -- which nodes show `var`s to the node round them
 
-abbrev shows_vars : Label → Bool
-shows_vars (Declarator k x) = true
-shows_vars l = holds_statements l
+abbrev holds_vars : Label → Bool
+holds_vars (Declarator k x) = true
+holds_vars l = holds_statements l
 
-inner_shows : (l : Label) → is_inner l ≡ true → shows_vars l ≡ false
+inner_shows : (l : Label) → is_inner l ≡ true → holds_vars l ≡ false
 inner_shows (Declarator k x) h = absurd (false≢true h)
 inner_shows Block h = absurd (false≢true h)
 inner_shows If h = absurd (false≢true h)
@@ -43,29 +43,29 @@ inner_shows (VarDecl k) h = absurd (false≢true h)
 inner_shows ExportDecl h = absurd (false≢true h)
 inner_shows l h = refl
 
-param_shows : (l : Label) → is_param l ≡ true → shows_vars l ≡ false
+param_shows : (l : Label) → is_param l ≡ true → holds_vars l ≡ false
 param_shows (Param x) h = refl
 param_shows l h = absurd (false≢true h)
 
-specifier_shows : (l : Label) → is_specifier l ≡ true → shows_vars l ≡ false
+specifier_shows : (l : Label) → is_specifier l ≡ true → holds_vars l ≡ false
 specifier_shows (ImportNamed x i) h = refl
 specifier_shows (ImportDefault x) h = refl
 specifier_shows (ImportStar x) h = refl
 specifier_shows l h = absurd (false≢true h)
 
-params_show : (l : Label) → is_params l ≡ true → shows_vars l ≡ false
+params_show : (l : Label) → is_params l ≡ true → holds_vars l ≡ false
 params_show Params h = refl
 params_show l h = absurd (false≢true h)
 
-no_own : (l : Label) → shows_vars l ≡ false → own_vars l ≡ []
+no_own : (l : Label) → holds_vars l ≡ false → own_vars l ≡ []
 no_own (Declarator k x) h = absurd (false≢true (sym h))
 no_own l h = refl
 
-not_holder : (l : Label) → shows_vars l ≡ false → holds_statements l ≡ false
+not_holder : (l : Label) → holds_vars l ≡ false → holds_statements l ≡ false
 not_holder (Declarator k x) h = absurd (false≢true (sym h))
 not_holder l h = h
 
-no_vars : (l : Label) (ss : List Span) (cs : Forest) → shows_vars l ≡ false → vars (node l ss cs) ≡ []
+no_vars : (l : Label) (ss : List Span) (cs : Forest) → holds_vars l ≡ false → vars (node l ss cs) ≡ []
 no_vars l ss cs h = ap₂ (λ xs b. xs ++ (if b then vars_all cs else [])) (no_own l h) (not_holder l h)
 
 -- the `var`s that a node shows, and those of a function's body
@@ -88,10 +88,10 @@ shown p e (node l ss cs ⊳ ts) h =
     let q = and_parts (p l) (all_labels p (labels_of ts)) h in
     ap₂ (λ b xs. (if b then vars_all cs else vars (node l ss cs)) ++ xs) (no_body p e l q.0) (shown p e ts q.1)
 
-none_seen_of : (l : Label) (ss : List Span) (cs : Forest) → is_body l ≡ false → shows_vars l ≡ false → seen (node l ss cs) ≡ []
+none_seen_of : (l : Label) (ss : List Span) (cs : Forest) → is_body l ≡ false → holds_vars l ≡ false → seen (node l ss cs) ≡ []
 none_seen_of l ss cs body h = ap (λ b. if b then vars_all cs else vars (node l ss cs)) body ∙ no_vars l ss cs h
 
-none_seen : (p : Label → Bool) → p Body ≡ false → ((l : Label) → p l ≡ true → shows_vars l ≡ false) → (ts : Forest) → all_labels p (labels_of ts) ≡ true → seen_all ts ≡ []
+none_seen : (p : Label → Bool) → p Body ≡ false → ((l : Label) → p l ≡ true → holds_vars l ≡ false) → (ts : Forest) → all_labels p (labels_of ts) ≡ true → seen_all ts ≡ []
 none_seen p e f ε h = refl
 none_seen p e f (node l ss cs ⊳ ts) h =
     let q = and_parts (p l) (all_labels p (labels_of ts)) h in
@@ -102,8 +102,8 @@ declarator_of_body Var = refl
 declarator_of_body Let = refl
 declarator_of_body Const = refl
 
-declared_no_body : (l : Label) → is_declared l ≡ true → is_body l ≡ false
-declared_no_body = no_body is_declared refl
+declared_no_body : (l : Label) → is_declaration l ≡ true → is_body l ≡ false
+declared_no_body = no_body is_declaration refl
 
 one_shown : (ts : Forest) → is_one_declaration (labels_of ts) ≡ true → seen_all ts ≡ vars_all ts
 one_shown ε h = absurd (false≢true h)
@@ -133,25 +133,25 @@ loop_shown (node i si ci ⊳ node t st ct ⊳ node u su cu ⊳ node b sb cb ⊳ 
 nowhere : {P : Type 0} (x : Name) (xs : List Name) → xs ≡ [] → has_name x xs ≡ true → P
 nowhere x xs is h = absurd (false≢true (sym (ap (has_name x) is) ∙ h))
 
-parts_seen : (body : Label → Bool) → ((l : Label) → body l ≡ true → (is_body l ≡ true) ⊎ ((is_body l ≡ false) × (shows_vars l ≡ false))) → (cs : Forest) → are_parts body (labels_of cs) ≡ true → (x : Name) → has_name x (seen_all cs) ≡ true → has_name x (vars_all (body_of cs)) ≡ true
+parts_seen : (body : Label → Bool) → ((l : Label) → body l ≡ true → (is_body l ≡ true) ⊎ ((is_body l ≡ false) × (holds_vars l ≡ false))) → (cs : Forest) → are_parts body (labels_of cs) ≡ true → (x : Name) → has_name x (seen_all cs) ≡ true → has_name x (vars_all (body_of cs)) ≡ true
 parts_seen body f (node p sp cp ⊳ node b sb cb ⊳ ε) h x i = let q = and_parts (is_params p) (body b) h in of_params p sp cp b sb cb q.0 (f b q.1) x i
   where
-    of_body : (b : Label) (sb : List Span) (cb : Forest) → (is_body b ≡ true) ⊎ ((is_body b ≡ false) × (shows_vars b ≡ false)) → (x : Name) → has_name x (seen (node b sb cb) ++ []) ≡ true → has_name x (vars_all (body_of (node b sb cb ⊳ ε))) ≡ true
+    of_body : (b : Label) (sb : List Span) (cb : Forest) → (is_body b ≡ true) ⊎ ((is_body b ≡ false) × (holds_vars b ≡ false)) → (x : Name) → has_name x (seen (node b sb cb) ++ []) ≡ true → has_name x (vars_all (body_of (node b sb cb ⊳ ε))) ≡ true
     of_body Body sb cb e x i = sym (ap (has_name x) (append-nil (vars_all cb))) ∙ i
     of_body b sb cb (inl e) x i = absurd (false≢true e)
     of_body b sb cb (inr e) x i = nowhere x (seen (node b sb cb) ++ []) (ap (λ xs. xs ++ []) (none_seen_of b sb cb e.0 e.1)) i
 
-    of_params : (p : Label) (sp : List Span) (cp : Forest) (b : Label) (sb : List Span) (cb : Forest) → is_params p ≡ true → (is_body b ≡ true) ⊎ ((is_body b ≡ false) × (shows_vars b ≡ false)) → (x : Name) → has_name x (seen_all (node p sp cp ⊳ node b sb cb ⊳ ε)) ≡ true → has_name x (vars_all (body_of (node p sp cp ⊳ node b sb cb ⊳ ε))) ≡ true
+    of_params : (p : Label) (sp : List Span) (cp : Forest) (b : Label) (sb : List Span) (cb : Forest) → is_params p ≡ true → (is_body b ≡ true) ⊎ ((is_body b ≡ false) × (holds_vars b ≡ false)) → (x : Name) → has_name x (seen_all (node p sp cp ⊳ node b sb cb ⊳ ε)) ≡ true → has_name x (vars_all (body_of (node p sp cp ⊳ node b sb cb ⊳ ε))) ≡ true
     of_params Params sp cp b sb cb e g x i = of_body b sb cb g x i
     of_params p sp cp b sb cb e g x i = absurd (false≢true e)
 parts_seen body f ε h x i = absurd (false≢true h)
 parts_seen body f (node p sp cp ⊳ ε) h x i = absurd (false≢true h)
 parts_seen body f (node p sp cp ⊳ node b sb cb ⊳ node c sc cc ⊳ ts) h x i = absurd (false≢true h)
 
-a_body : (l : Label) → is_body l ≡ true → (is_body l ≡ true) ⊎ ((is_body l ≡ false) × (shows_vars l ≡ false))
+a_body : (l : Label) → is_body l ≡ true → (is_body l ≡ true) ⊎ ((is_body l ≡ false) × (holds_vars l ≡ false))
 a_body l h = inl h
 
-body_or_inner : (l : Label) → is_body_or_inner l ≡ true → (is_body l ≡ true) ⊎ ((is_body l ≡ false) × (shows_vars l ≡ false))
+body_or_inner : (l : Label) → is_body_or_inner l ≡ true → (is_body l ≡ true) ⊎ ((is_body l ≡ false) × (holds_vars l ≡ false))
 body_or_inner Body h = inl refl
 body_or_inner l h = inr (refl, inner_shows l h)
 

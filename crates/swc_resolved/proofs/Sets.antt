@@ -8,7 +8,7 @@ use Rattle.std.specs.List.Sorted.{IsPermutation}
 use Rattle.swc_ast.specs.Tree as tree
 use Rattle.swc_ast.specs.Tree.{same_name}
 use Rattle.swc_ast.specs.Scope.{has_name}
-use Rattle.swc_static.proofs.Names.{same_name_path}
+use Rattle.static_proofs.proofs.Names.{same_name_path}
 use Rattle.swc_resolved.specs.Names.{name, names}
 use Rattle.swc_resolved.specs.declared.names.Name.{Name}
 

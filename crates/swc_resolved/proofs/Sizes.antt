@@ -1,8 +1,7 @@
 -- How far into a tree a walk is that goes from nodes to their children and on.
 use Rattle.std.proofs.Common.{◌≡◌, ◌+◌, ◌*◌, ◌<◌, ◌≤◌, ap, arith}
-use Rattle.swc_ast.specs.Tree.{Tree, Forest, ◌⊳◌}
-use Rattle.swc_visit.specs.Nodes.{children_of}
-use Rattle.swc_visit.proofs.Caps.{tree_size, forest_size, opened_smaller}
+use Rattle.swc_ast.specs.Tree.{Tree, Forest, ◌⊳◌, children_of}
+use Rattle.tree_visit.proofs.Caps.{tree_size, forest_size, opened_smaller}
 
 pub children_fall : (t : Tree) (cs : Forest) → children_of t ≡ cs → forest_size cs * 2 + 1 < tree_size t * 2
 children_fall t cs is = let smaller = opened_smaller t cs is in omega (arith, smaller)

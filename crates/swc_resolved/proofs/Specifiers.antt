@@ -2,10 +2,9 @@
 use Rattle.std.proofs.Common.{◌≡◌, ℕ, ◌+◌, Bool, true, false, not, ◌&&◌, refl, sym, ap, ap₂, ◌∙◌, arith}
 use Rattle.std.proofs.lemmas.Bool.{false≢true}
 use Rattle.swc_ast.specs.Tree as tree
-use Rattle.swc_ast.specs.Tree.{Name, Label, Tree, node, Forest, ε, ◌⊳◌}
+use Rattle.swc_ast.specs.Tree.{Name, Label, Tree, node, Forest, ε, ◌⊳◌, label_of, children_of}
 use Rattle.swc_ast.specs.Scope.{module_binds}
 use Rattle.swc_ast.specs.Resolved.{one_if, own_scopes, specifier_bound, exports_bound, own_exports_bound}
-use Rattle.swc_visit.specs.Nodes.{label_of, children_of}
 use Rattle.swc_resolved.specs.Names.{is_free}
 use Rattle.swc_resolved.specs.Exports.{label_bound, is_export_named, item_bound, own_exports}
 

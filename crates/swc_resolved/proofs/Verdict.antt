@@ -4,15 +4,14 @@ use Rattle.std.proofs.lemmas.Bool.{false≢true, and_parts}
 use Rattle.std.specs.Bool.{MatchBool}
 use Rattle.std.specs.Prelude.{◌↔◌, IsTrue}
 use Rattle.swc_ast.specs.declared.expressions.Expr.{Expr}
-use Rattle.swc_ast.specs.Tree.{Name, Label, Tree, Forest}
+use Rattle.swc_ast.specs.Tree.{Name, Label, Tree, Forest, label_of, children_of}
 use Rattle.swc_ast.specs.Views.{expr_tree}
 use Rattle.swc_ast.specs.Meaning.{is_unresolved}
 use Rattle.swc_ast.specs.Resolved.{one_if, is_default, own_scopes, scopes, scopes_all, no_targets, below, aimed, apart, own_exports_bound, IsResolved}
 use Rattle.swc_ast.specs.Core.{IsCore}
 use Rattle.swc_ast.specs.Valid.{valid}
-use Rattle.swc_static.specs.Shaped.{IsShaped}
-use Rattle.swc_static.proofs.ShapedViews.{expr_shaped}
-use Rattle.swc_visit.specs.Nodes.{label_of, children_of}
+use Rattle.static_proofs.specs.Shaped.{IsShaped}
+use Rattle.static_proofs.proofs.ShapedViews.{expr_shaped}
 use Rattle.swc_resolved.specs.Names.{is_free}
 use Rattle.swc_resolved.specs.Here.{core_here}
 use Rattle.swc_resolved.specs.Scopes.{Binds, BindsWell}

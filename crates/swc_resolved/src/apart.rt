@@ -1,8 +1,8 @@
 //! Parameters beside a default.
 ghost use Rattle.std.specs.Prelude.{◌≡◌, IfOk};
 ghost use Rattle.swc_ast.specs.Resolved.{none_declared as none_among, params_apart};
-ghost use Rattle.swc_visit.specs.Kinds.{kind_label};
-ghost use Rattle.swc_visit.specs.Nodes.{children_forest};
+ghost use Rattle.tree_visit.specs.Kinds.{kind_label};
+ghost use Rattle.tree_visit.specs.Nodes.{children_forest};
 ghost use Rattle.swc_resolved.specs.Scopes.{own_apart};
 ghost use Rattle.swc_resolved.specs.Names.{names as names_of};
 
@@ -10,7 +10,7 @@ use crate::declared::{Part, add_body, add_names};
 use crate::functions::{Half, half_of, has_default, is_function};
 use crate::names::{Name, TextSet};
 use std::alloc::{AllocError, Global};
-use swc_visit::{Children, Kind};
+use tree_visit::{Children, Kind};
 
 /// Whether a node that is a function with a default declares no text of a parameter in its body.
 /// Fails where memory is refused.

@@ -6,8 +6,8 @@ ghost use Rattle.swc_ast.specs.Resolved.{first_names, declared_names, catch_name
 ghost use Rattle.swc_ast.specs.Scope.{own_vars, declarator_name as label_declarator, param_name as label_param, imported_name as label_imported, option_name};
 ghost use Rattle.swc_ast.specs.Statements.{handler_param};
 ghost use Rattle.swc_ast.specs.Tree.{Tree, ε};
-ghost use Rattle.swc_visit.specs.Kinds.{kind_label};
-ghost use Rattle.swc_visit.specs.Nodes.{Opens, node_tree, children_forest};
+ghost use Rattle.tree_visit.specs.Kinds.{kind_label};
+ghost use Rattle.tree_visit.specs.Nodes.{Opens, node_tree, children_forest};
 ghost use Rattle.swc_resolved.specs.Names.{names as tree_names_of};
 ghost use Rattle.swc_resolved.specs.Parts.{optional, tree_names, forest_names, label_names, declaring, is_export as is_export_label, is_lexical as is_lexical_label, is_import as is_import_label, is_case_body as is_case_label};
 ghost use Rattle.swc_resolved.specs.Scopes.{own_names};
@@ -15,7 +15,7 @@ ghost use Rattle.swc_resolved.specs.Scopes.{own_names};
 use crate::names::Name;
 use std::alloc::AllocError;
 use swc_ast::{CatchClause, Ident, VarDeclKind};
-use swc_visit::{Children, Kind, Node, Opened};
+use tree_visit::{Children, Kind, Node, Opened};
 
 /// What of a list of nodes gives names to the scope.
 #[derive(Clone, Copy)]
@@ -39,7 +39,7 @@ pub enum Part {
 
 /// Adds the names that a list of nodes gives. Fails where memory is refused.
 #[cycle(names)]
-#[tactic(auto, using(swc_visit::proofs::Caps::rest_falls, crate::proofs::Sizes::rest_within, crate::proofs::Gathered::goes_on, crate::proofs::Gathered::ends))]
+#[tactic(auto, using(tree_visit::proofs::Caps::rest_falls, crate::proofs::Sizes::rest_within, crate::proofs::Gathered::goes_on, crate::proofs::Gathered::ends))]
 pub fn add_names<'a>(
     names: &mut Vec<Name<'a>>,
     children: Children<'a>,

@@ -2,14 +2,14 @@
 ghost use Rattle.std.specs.Prelude.{◌≡◌};
 ghost use Rattle.swc_ast.specs.Marks.{mark_number};
 ghost use Rattle.swc_ast.specs.Resolved.{specifier_bound, exports_bound};
-ghost use Rattle.swc_visit.specs.Kinds.{kind_label};
-ghost use Rattle.swc_visit.specs.Nodes.{node_tree, children_forest};
+ghost use Rattle.tree_visit.specs.Kinds.{kind_label};
+ghost use Rattle.tree_visit.specs.Nodes.{node_tree, children_forest};
 ghost use Rattle.swc_resolved.specs.Names.{name};
 ghost use Rattle.swc_resolved.specs.Exports.{is_bound as is_bound_name, label_bound, item_bound, own_exports, is_export_named as is_export_named_label};
 
 use crate::names::{Name, Taken};
 use swc_ast::Mark;
-use swc_visit::{Children, Kind, Node};
+use tree_visit::{Children, Kind, Node};
 
 impl<'a> Taken<'a> {
     /// Whether each name that a module exports is bound; other nodes export none.
@@ -27,7 +27,7 @@ impl<'a> Taken<'a> {
         }
     }
 
-    #[tactic(auto, using(swc_visit::proofs::Caps::rest_falls))]
+    #[tactic(auto, using(tree_visit::proofs::Caps::rest_falls))]
     fn exports_bound(&self, items: Children<'a>, unresolved_mark: Mark) -> bool
         ensures { result ≡ exports_bound (is_bound_name self.now (mark_number unresolved_mark)) (children_forest items.entry) }
     {
@@ -51,7 +51,7 @@ impl<'a> Taken<'a> {
         self.specifiers_bound(opened.children, unresolved_mark)
     }
 
-    #[tactic(auto, using(swc_visit::proofs::Caps::rest_falls))]
+    #[tactic(auto, using(tree_visit::proofs::Caps::rest_falls))]
     fn specifiers_bound(&self, specifiers: Children<'a>, unresolved_mark: Mark) -> bool
         ensures { result ≡ specifier_bound (is_bound_name self.now (mark_number unresolved_mark)) (children_forest specifiers.entry) }
     {

@@ -2,11 +2,11 @@
 ghost use Rattle.std.specs.Prelude.{◌≡◌};
 ghost use Rattle.swc_ast.specs.Resolved.{has_default as has_default_among};
 ghost use Rattle.swc_ast.specs.Scope.{is_function as is_function_label};
-ghost use Rattle.swc_visit.specs.Kinds.{kind_label};
-ghost use Rattle.swc_visit.specs.Nodes.{children_forest};
+ghost use Rattle.tree_visit.specs.Kinds.{kind_label};
+ghost use Rattle.tree_visit.specs.Nodes.{children_forest};
 ghost use Rattle.swc_resolved.specs.Scopes.{half_of as half_among, is_half as is_half_label, is_defaulted as is_defaulted_param};
 
-use swc_visit::{Children, Kind};
+use tree_visit::{Children, Kind};
 
 /// What a function has.
 #[derive(Clone, Copy)]
@@ -29,7 +29,7 @@ pub(crate) fn is_function(kind: Kind<'_>) -> bool
 }
 
 /// The parameters or the statements among a function's children.
-#[tactic(auto, using(swc_visit::proofs::Caps::rest_falls, crate::proofs::Halves::no_half))]
+#[tactic(auto, using(tree_visit::proofs::Caps::rest_falls, crate::proofs::Halves::no_half))]
 pub fn half_of<'a>(children: Children<'a>, half: Half) -> Children<'a>
     ensures { children_forest result ≡ half_among half (children_forest children.entry) }
 {
@@ -60,7 +60,7 @@ fn is_half(kind: Kind<'_>, half: Half) -> bool
 }
 
 /// Whether a parameter has a default.
-#[tactic(auto, using(swc_visit::proofs::Caps::rest_falls, crate::proofs::Halves::default_here))]
+#[tactic(auto, using(tree_visit::proofs::Caps::rest_falls, crate::proofs::Halves::default_here))]
 pub fn has_default(params: Children<'_>) -> bool
     ensures { result ≡ has_default_among (children_forest params.entry) }
 {

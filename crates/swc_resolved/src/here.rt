@@ -5,8 +5,8 @@ ghost use Rattle.swc_ast.specs.Meaning.{head_names, first_tree};
 ghost use Rattle.swc_ast.specs.Resolved.{first_names, params_of, body_of};
 ghost use Rattle.swc_ast.specs.Scope.{param_names, vars_all};
 ghost use Rattle.swc_ast.specs.Tree as tree;
-ghost use Rattle.swc_visit.specs.Kinds.{kind_label};
-ghost use Rattle.swc_visit.specs.Nodes.{children_forest};
+ghost use Rattle.tree_visit.specs.Kinds.{kind_label};
+ghost use Rattle.tree_visit.specs.Nodes.{children_forest};
 ghost use Rattle.swc_resolved.specs.Here.{distinct, named_once, own_core};
 ghost use Rattle.swc_resolved.specs.Names.{names as names_of};
 ghost use Rattle.swc_resolved.specs.Parts.{forest_names};
@@ -16,7 +16,7 @@ use crate::distinct::{are_apart, are_distinct};
 use crate::functions::{Half, half_of};
 use crate::names::Name;
 use std::alloc::{AllocError, Global};
-use swc_visit::{Children, Kind};
+use tree_visit::{Children, Kind};
 
 /// 2^53 - 1: each whole number up to it is one that a double holds (ECMA-262, 21.1.2.8).
 const GREATEST: u64 = 9007199254740991;

@@ -2,11 +2,11 @@
 ghost use Rattle.std.specs.Prelude.{◌≡◌, IfOk, map};
 ghost use Rattle.swc_ast.specs.Meaning.{has_label};
 ghost use Rattle.swc_ast.specs.Resolved.{no_targets, jump_is_aimed, all_labels};
-ghost use Rattle.swc_visit.specs.Kinds.{kind_label};
+ghost use Rattle.tree_visit.specs.Kinds.{kind_label};
 ghost use Rattle.swc_resolved.specs.Jumps.{targets};
 
 use std::alloc::{AllocError, Global};
-use swc_visit::Kind;
+use tree_visit::Kind;
 
 /// What jumps may go to.
 #[derive(Clone, Copy)]

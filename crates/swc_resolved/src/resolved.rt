@@ -6,16 +6,16 @@ ghost use Rattle.swc_ast.specs.Marks.{mark_number};
 ghost use Rattle.swc_ast.specs.Modules.{module_tree, script_tree};
 ghost use Rattle.swc_ast.specs.Resolved.{IsResolved};
 ghost use Rattle.swc_ast.specs.Views.{expr_tree};
-ghost use Rattle.swc_visit.specs.Nodes.{node_tree};
+ghost use Rattle.tree_visit.specs.Nodes.{node_tree};
 ghost use Rattle.swc_resolved.specs.Asked.{IsAsked};
 
 use crate::jumps::Targets;
 use crate::names::Taken;
 use crate::walk::is_own_good;
+use static_proofs::laws;
 use std::alloc::{AllocError, Global};
 use swc_ast::{Expr, Mark, Module, PassError, Script};
-use swc_static::laws;
-use swc_visit::Node;
+use tree_visit::Node;
 
 /// Returns whether a module is resolved for a mark: each name is bound by at most one scope, no unresolved
 /// name is bound, each jump has a target, no body declares the text of a parameter beside a

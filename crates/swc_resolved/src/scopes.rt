@@ -4,8 +4,8 @@ ghost use Rattle.std.specs.List.{list_any};
 ghost use Rattle.swc_ast.specs.Resolved.{one_if, function_scopes, own_scopes};
 ghost use Rattle.swc_ast.specs.Scope.{has_name};
 ghost use Rattle.swc_ast.specs.Tree as tree;
-ghost use Rattle.swc_visit.specs.Kinds.{kind_label};
-ghost use Rattle.swc_visit.specs.Nodes.{children_forest};
+ghost use Rattle.tree_visit.specs.Kinds.{kind_label};
+ghost use Rattle.tree_visit.specs.Nodes.{children_forest};
 ghost use Rattle.swc_resolved.specs.Names.{names as names_of, is_taken};
 ghost use Rattle.swc_resolved.specs.Scopes.{Binds, opens_scope};
 
@@ -13,7 +13,7 @@ use crate::declared::{Part, add_body, add_names, add_own_names};
 use crate::functions::{Half, half_of, has_default, is_function};
 use crate::names::{Name, Taken};
 use std::alloc::{AllocError, Global};
-use swc_visit::{Children, Kind};
+use tree_visit::{Children, Kind};
 
 /// Whether a node opens a scope.
 #[inline(always)]

@@ -2,8 +2,8 @@
 //! each node where it is asked for.
 ghost use Rattle.std.specs.Prelude.{◌≡◌, IfOk};
 ghost use Rattle.swc_ast.specs.Resolved.{below, scopes, scopes_all};
-ghost use Rattle.swc_visit.specs.Kinds.{kind_label};
-ghost use Rattle.swc_visit.specs.Nodes.{node_tree, children_forest};
+ghost use Rattle.tree_visit.specs.Kinds.{kind_label};
+ghost use Rattle.tree_visit.specs.Nodes.{node_tree, children_forest};
 ghost use Rattle.swc_resolved.specs.Jumps.{targets};
 ghost use Rattle.swc_resolved.specs.Names.{is_taken};
 ghost use Rattle.swc_resolved.specs.Asked.{own_fit, own_good, good, good_all, Passes};
@@ -14,7 +14,7 @@ use crate::jumps::{Targets, is_jump_aimed, joined};
 use crate::names::Taken;
 use std::alloc::{AllocError, Global};
 use swc_debug::{has_good_names, has_good_shape};
-use swc_visit::{Children, Kind, Node};
+use tree_visit::{Children, Kind, Node};
 
 /// Whether the node's names and its children are as validity wants them and the node is core by itself, where this is asked for.
 /// Fails where memory is refused.
@@ -163,7 +163,7 @@ impl<'a> Taken<'a> {
 
     /// The same of each of some trees.
     #[cycle(walk)]
-    #[tactic(auto, using(swc_visit::proofs::Caps::rest_falls, crate::proofs::Sizes::rest_within, crate::proofs::Good::first_fails, crate::proofs::Good::rest_decides, crate::proofs::Good::rest_binds, crate::proofs::Good::ends))]
+    #[tactic(auto, using(tree_visit::proofs::Caps::rest_falls, crate::proofs::Sizes::rest_within, crate::proofs::Good::first_fails, crate::proofs::Good::rest_decides, crate::proofs::Good::rest_binds, crate::proofs::Good::ends))]
     fn walk_all(
         &mut self,
         children: Children<'a>,

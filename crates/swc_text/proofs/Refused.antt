@@ -2,10 +2,10 @@
 use Rattle.std.proofs.Common.{◌≡◌, List, [], Option, Some, None, option_map, sym, ap, ◌∙◌, subst, true, Bool}
 use Rattle.swc_ast.specs.Tree.{Name, Tree}
 use Rattle.swc_ast.specs.Valid.{valid}
-use Rattle.swc_captures.specs.Captured.{no_scope, captured}
-use Rattle.swc_captures.specs.Views.{Tells}
-use Rattle.swc_captures.specs.declared.captures.Fault.{Fault}
-use Rattle.swc_captures.specs.declared.captures.Fault.TheVariants as fault
+use Rattle.tree_captures.specs.Captured.{no_scope, captured}
+use Rattle.tree_captures.specs.Views.{Tells}
+use Rattle.tree_captures.specs.declared.captures.Fault.{Fault}
+use Rattle.tree_captures.specs.declared.captures.Fault.TheVariants as fault
 use Rattle.swc_text.specs.declared.error.PrintError.{PrintError}
 use Rattle.swc_text.specs.declared.error.PrintError.TheVariants as print
 use Rattle.swc_text.specs.Refused.{Says, Refuses}

@@ -3,9 +3,9 @@ use Rattle.std.specs.Prelude.{◌≡◌, false, [], Some, option_map, string_byt
 use Rattle.swc_ast.specs.Parts.{ident_name}
 use Rattle.swc_ast.specs.Tree.{Tree}
 use Rattle.swc_ast.specs.Valid.{valid}
-use Rattle.swc_captures.specs.Captured.{no_scope, captured, first_of}
-use Rattle.swc_captures.specs.declared.captures.Fault.{Fault}
-use Rattle.swc_captures.specs.declared.captures.Fault.TheVariants as fault
+use Rattle.tree_captures.specs.Captured.{no_scope, captured, first_of}
+use Rattle.tree_captures.specs.declared.captures.Fault.{Fault}
+use Rattle.tree_captures.specs.declared.captures.Fault.TheVariants as fault
 use Rattle.swc_text.specs.declared.error.PrintError.{PrintError}
 use Rattle.swc_text.specs.declared.error.PrintError.TheVariants as print
 

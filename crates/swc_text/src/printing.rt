@@ -2,13 +2,13 @@
 ghost use Rattle.std.specs.Prelude.{◌≡◌, [], true, false, IfOk, IfErr};
 ghost use Rattle.swc_ast.specs.Modules.{module_tree, script_tree};
 ghost use Rattle.swc_ast.specs.Valid.{valid};
-ghost use Rattle.swc_captures.specs.Captured.{no_scope, captured};
+ghost use Rattle.tree_captures.specs.Captured.{no_scope, captured};
 ghost use Rattle.swc_text.specs.Refused.{Says, Refuses};
 
 use crate::error::PrintError;
 use std::alloc::Global;
 use swc_ast::{Module, Script};
-use swc_captures::{Fault, first_fault, first_fault_of_script};
+use tree_captures::{Fault, first_fault, first_fault_of_script};
 
 /// Returns the text of a module, each item on a line of its own. `Captured` has the first name in the order of the text
 /// that a scope other than its own would bind; otherwise `Invalid` is returned if the module isn't valid.
@@ -21,7 +21,7 @@ pub fn print(alloc: Global, m: &Module) -> Result<String, PrintError>
     if let Some(fault) = first_fault(alloc, m)? {
         return Err(refusal(fault));
     }
-    Ok(swc_printer::print(alloc, m)?)
+    Ok(text_printer::print(alloc, m)?)
 }
 
 /// Returns the text of a script, as `print` does for a module.
@@ -34,7 +34,7 @@ pub fn print_script(alloc: Global, s: &Script) -> Result<String, PrintError>
     if let Some(fault) = first_fault_of_script(alloc, s)? {
         return Err(refusal(fault));
     }
-    Ok(swc_printer::print_script(alloc, s)?)
+    Ok(text_printer::print_script(alloc, s)?)
 }
 
 /// What is told of a fault.

@@ -12,8 +12,8 @@ ghost use Rattle.swc_text.specs.declared.error.ReadError.TheVariants.{TooLong};
 use crate::error::{ReadError, told};
 use std::alloc::{AllocError, Global};
 use swc_ast::{Expr, Mark, Module, Script};
-use swc_parser::{parse_expr, parse_module, parse_script, parse_spanless_expr};
 use swc_resolved::{is_core_and_resolved, is_expr_core_and_resolved, is_script_core_and_resolved};
+use text_parser::{parse_expr, parse_module, parse_script, parse_spanless_expr};
 
 /// 2^31, in bytes
 const TOO_LONG: usize = 0x8000_0000;

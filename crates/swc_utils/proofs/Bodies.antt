@@ -2,15 +2,14 @@
 use Rattle.std.proofs.Common.{◌≡◌, Bool, true, false, refl, sym, ◌∙◌}
 use Rattle.std.proofs.lemmas.Bool.{false≢true}
 use Rattle.swc_ast.specs.Tree as tree
-use Rattle.swc_ast.specs.Tree.{Tree, node}
+use Rattle.swc_ast.specs.Tree.{Tree, node, label_of}
 use Rattle.swc_ast.specs.Views.{expr_tree}
 use Rattle.swc_ast.specs.SameLaws.{bare-same}
 use Rattle.swc_ast.specs.declared.expressions.Expr.{Expr}
 use Rattle.swc_ast.proofs.ApartExpressions.{expr_form, no_expr}
-use Rattle.swc_ast.proofs.Labels.{label}
 use Rattle.swc_utils.specs.Pure.{is_empty_body}
 
-empty_form : (t : Tree) → is_empty_body t ≡ true → expr_form (label t) ≡ 0
+empty_form : (t : Tree) → is_empty_body t ≡ true → expr_form (label_of t) ≡ 0
 empty_form (node tree.Body ss ts) h = refl
 empty_form (node l ss ts) h = absurd (false≢true h)
 

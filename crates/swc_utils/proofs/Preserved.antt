@@ -5,7 +5,7 @@ use Rattle.swc_ast.specs.Tree.{Tree, Forest, ε, ◌⊳◌}
 use Rattle.swc_ast.specs.Value.{and_then, Context, Meaning}
 use Rattle.swc_ast.specs.Meaning.{◌>>=◌, Caller, in_turn, run_all, act, eval, evals}
 use Rattle.swc_ast.specs.Call.{call_at}
-use Rattle.swc_meaning.specs.Exact.{Refines}
+use Rattle.meaning_proofs.specs.Exact.{Refines}
 use Rattle.swc_utils.specs.Effects.{effects_all, preserve, Preserves}
 use Rattle.swc_utils.proofs.Refines.{refines_same, refines_then, refines_trans, refines_assoc}
 use Rattle.swc_utils.proofs.RunEffects.{evals_joined, all_kept}

@@ -2,7 +2,7 @@
 use Rattle.std.proofs.Common.{refl, sym, ap, subst}
 use Rattle.swc_ast.specs.Value.{State, Outcome, Done, Jumps, Outside, Cut, Run, and_then}
 use Rattle.swc_ast.specs.Meaning.{◌>>=◌, leaves}
-use Rattle.swc_meaning.specs.Exact.{Refined, Refines}
+use Rattle.meaning_proofs.specs.Exact.{Refined, Refines}
 use Rattle.swc_utils.specs.Holds.{Quiet, Keeps}
 
 refined_same : {A : Type 0} (r : Outcome A) → Refined r r

@@ -14,7 +14,7 @@ use Rattle.swc_ast.specs.Call.{call_at}
 use Rattle.swc_utils.specs.Globals.{is_host_name}
 use Rattle.swc_utils.specs.Pure.{has_spread, pure}
 use Rattle.swc_utils.specs.Effects.{is_strict, has_record_spread, unless_pure, effects, effects_all}
-use Rattle.swc_meaning.specs.Exact.{Refines}
+use Rattle.meaning_proofs.specs.Exact.{Refines}
 use Rattle.swc_utils.proofs.Ends.{core_keeps}
 use Rattle.swc_utils.proofs.Pure.{pure_is_still, read_still}
 use Rattle.swc_utils.proofs.Refines.{refines_same, refines_then, refines_drop, refines_trans, refines_assoc, refines_chain, refines_leaves}

@@ -10,7 +10,7 @@ use Rattle.swc_ast.specs.Value.{Context}
 use Rattle.swc_ast.specs.Scope.{joined}
 use Rattle.swc_ast.specs.Meaning.{◌>>=◌, run_all, eval, evals}
 use Rattle.swc_ast.specs.Call.{call_at}
-use Rattle.swc_meaning.specs.Exact.{Refines}
+use Rattle.meaning_proofs.specs.Exact.{Refines}
 use Rattle.swc_utils.specs.Globals.{is_host_name}
 use Rattle.swc_utils.specs.Pure.{pure, has_spread}
 

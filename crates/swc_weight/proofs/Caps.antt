@@ -1,12 +1,11 @@
 -- Sums that stop at the greatest number of 64 bits.
 use Rattle.std.proofs.Common.{◌≡◌, ℕ, ◌+◌, ◌-◌, ◌^◌, ◌<◌, ◌≤◌, min, refl, sym, ap, ◌∙◌, arith, List, [], ◌∷◌, map, length}
 use Rattle.std.specs.Prelude.{Option}
-use Rattle.swc_ast.specs.Tree.{Label, Tree, node, Forest, ε, ◌⊳◌}
+use Rattle.swc_ast.specs.Tree.{Label, Tree, node, Forest, ε, ◌⊳◌, label_of, children_of}
 use Rattle.swc_ast.specs.Expressions.{item_kind}
 use Rattle.swc_ast.specs.Weight.{weight, weight_all, items_weight, movable}
 use Rattle.swc_ast.specs.declared.expressions.Expr.{Expr}
 use Rattle.swc_ast.specs.declared.expressions.ExprOrSpread.{ExprOrSpread}
-use Rattle.swc_visit.specs.Nodes.{label_of, children_of}
 use Rattle.swc_weight.specs.Classes.{weight_without_children}
 
 weight_split : (t : Tree) → weight t ≡ weight_without_children (label_of t) (children_of t) + weight_all (children_of t)

@@ -4,7 +4,7 @@ use Rattle.swc_ast.specs.Tree as tree
 use Rattle.swc_ast.specs.Tree.{Forest}
 use Rattle.swc_ast.specs.Weight.{test_weight, list_weight}
 use Rattle.swc_ast.specs.declared.VarDeclKind.TheVariants.{Var, Let, Const}
-use Rattle.swc_visit.specs.Classes.{label_class}
+use Rattle.tree_visit.specs.Classes.{label_class}
 use Rattle.swc_weight.specs.Classes.{class_test_weight, class_list_weight}
 
 pub test_by : (l : tree.Label) (cs : Forest) → test_weight l cs ≡ class_test_weight (label_class l) cs

@@ -3,8 +3,8 @@ use Rattle.std.specs.Prelude.{ℕ, ◌+◌, ◌*◌}
 use Rattle.swc_ast.specs.Tree as tree
 use Rattle.swc_ast.specs.Tree.{Forest}
 use Rattle.swc_ast.specs.Weight.{own_weight, test_weight, list_weight, unreached}
-use Rattle.swc_visit.specs.declared.class.Class.{Class}
-use Rattle.swc_visit.specs.declared.class.Class.TheVariants as class
+use Rattle.tree_visit.specs.declared.class.Class.{Class}
+use Rattle.tree_visit.specs.declared.class.Class.TheVariants as class
 
 abbrev pub class_test_weight : Class → Forest → ℕ
 class_test_weight class.While cs = test_weight tree.While cs

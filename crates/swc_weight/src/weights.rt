@@ -5,11 +5,11 @@ ghost use Rattle.swc_ast.specs.Modules.{module_tree, script_tree};
 ghost use Rattle.swc_ast.specs.Tree.{While, For};
 ghost use Rattle.swc_ast.specs.Weight.{weight as tree_weight, own_weight as node_weight, items_weight as kinds_weight, number_weight as literal_weight, test_weight as label_test_weight, is_truth_or_absent as tree_is_truth, movable as movable_in, unreached as unreached_in};
 ghost use Rattle.swc_weight.specs.Classes.{class_test_weight, class_list_weight, weight_without_children};
-ghost use Rattle.swc_visit.specs.Nodes.{node_tree, children_forest};
-ghost use Rattle.swc_visit.specs.Kinds.{kind_label};
+ghost use Rattle.tree_visit.specs.Nodes.{node_tree, children_forest};
+ghost use Rattle.tree_visit.specs.Kinds.{kind_label};
 
 use swc_ast::{ExprOrSpread, Module, Script};
-use swc_visit::{Children, Class, Kind, Node};
+use tree_visit::{Children, Class, Kind, Node};
 
 /// Returns the weight of a module, which each change of a simplifier makes smaller; at most `u64::MAX`.
 pub fn weight(m: &Module) -> u64
@@ -25,7 +25,7 @@ pub fn weight_of_script(s: &Script) -> u64
     weight_of(Node::Script(s))
 }
 
-#[tactic(auto, using(crate::proofs::Caps::weight_starts, crate::proofs::Caps::weight_goes_on, crate::proofs::Caps::weight_ends, swc_visit::proofs::Caps::opened_smaller, swc_visit::proofs::Caps::child_smaller, swc_visit::proofs::Caps::rest_smaller, swc_visit::proofs::Caps::rest_falls))]
+#[tactic(auto, using(crate::proofs::Caps::weight_starts, crate::proofs::Caps::weight_goes_on, crate::proofs::Caps::weight_ends, tree_visit::proofs::Caps::opened_smaller, tree_visit::proofs::Caps::child_smaller, tree_visit::proofs::Caps::rest_smaller, tree_visit::proofs::Caps::rest_falls))]
 fn weight_of(n: Node<'_>) -> u64
     ensures { result ≡ min (tree_weight (node_tree n.entry)) (2 ^ 64 - 1) }
 {
@@ -248,7 +248,7 @@ fn list_weight(class: Class, children: Children<'_>) -> u64
 }
 
 /// How many statements that are no functions stand behind the first direct stopper.
-#[tactic(auto, using(swc_visit::proofs::Caps::rest_falls))]
+#[tactic(auto, using(tree_visit::proofs::Caps::rest_falls))]
 fn unreached(children: Children<'_>) -> u64
     ensures { result ≡ min (unreached_in (children_forest children.entry)) (2 ^ 64 - 1) }
 {
@@ -263,7 +263,7 @@ fn unreached(children: Children<'_>) -> u64
 }
 
 /// How many statements stand in a list that are no functions.
-#[tactic(auto, using(swc_visit::proofs::Caps::rest_falls, crate::proofs::Caps::movable_ends))]
+#[tactic(auto, using(tree_visit::proofs::Caps::rest_falls, crate::proofs::Caps::movable_ends))]
 fn movable(children: Children<'_>) -> u64
     ensures { result ≡ min (movable_in (children_forest children.entry)) (2 ^ 64 - 1) }
 {

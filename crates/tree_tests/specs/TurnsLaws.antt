@@ -7,8 +7,8 @@ use Rattle.swc_ast.specs.Resolved.{IsResolved, Targets, no_targets, aimed, aimed
 use Rattle.swc_ast.specs.Core.{IsCore}
 use Rattle.swc_ast.specs.Weight.{weight, own_weight}
 use Rattle.swc_ast.specs.Run.{Same}
-use Rattle.swc_meaning.proofs.Observations.{same_itself}
-use Rattle.swc_static.proofs.Bare.{weight_bare}
+use Rattle.meaning_proofs.proofs.Observations.{same_itself}
+use Rattle.static_proofs.proofs.Bare.{weight_bare}
 use Rattle.swc_pass.specs.Pass.{IsLawful, SameBare, TellsChange}
 use Rattle.tree_tests.specs.Turns.{long_tree, short_tree, turned_from, turned_to, Turned, turns, leaves}
 

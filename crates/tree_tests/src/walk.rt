@@ -9,11 +9,11 @@ use swc_ast::{
     AssignExpr, AssignOp, AssignTarget, Decl, Expr, Invalid, Lit, ModuleItem, Script, Stmt,
     VarDecl, VarDeclKind, VarDeclarator,
 };
-use swc_walk::{
+use test_trees::{ident, module, number, span, statement};
+use tree_walk::{
     ListPlace, Place, Rules, rewrite, walk_decl, walk_expr, walk_list, walk_module, walk_script,
     walk_stmt,
 };
-use test_trees::{ident, module, number, span, statement};
 
 #[derive(Drop)]
 struct Unassign {}

@@ -1,6 +1,6 @@
 use Rattle.std.proofs.Common.{rules}
-use Rattle.swc_walk.specs.Walks.{none}
-use Rattle.swc_walk.proofs.Walked.{each_more, each_all}
+use Rattle.tree_walk.specs.Walks.{none}
+use Rattle.tree_walk.proofs.Walked.{each_more, each_all}
 use Rattle.branch_switch.proofs.Sheds.{ShedEach, each_sheds, each_no_deeper}
 use Rattle.branch_switch.proofs.shed.shed_cases.Goals as goal
 

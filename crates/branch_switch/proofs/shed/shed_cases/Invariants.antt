@@ -1,6 +1,6 @@
 use Rattle.std.proofs.Common.{◌≡◌, ◌≤◌, ℕ, get_or, length, take}
 use Rattle.swc_ast.specs.declared.statements.SwitchCase.{SwitchCase}
-use Rattle.swc_walk.specs.Walks.{Each}
+use Rattle.tree_walk.specs.Walks.{Each}
 use Rattle.branch_switch.proofs.Sheds.{ShedEach}
 use Rattle.branch_switch.proofs.shed.shed_cases.Given as goal
 

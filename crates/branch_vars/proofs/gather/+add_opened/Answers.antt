@@ -1,6 +1,6 @@
 use Rattle.std.proofs.Common.{◌++◌, ap, ◌∙◌, arith}
-use Rattle.swc_visit.specs.Nodes.{children_forest, node_tree}
-use Rattle.swc_visit.proofs.Caps.{forest_size}
+use Rattle.tree_visit.specs.Nodes.{children_forest, node_tree}
+use Rattle.tree_visit.proofs.Caps.{forest_size}
 use Rattle.branch_vars.specs.Names.{names_of}
 use Rattle.branch_vars.proofs.Gathered.{opened, goes_on}
 use Rattle.branch_vars.proofs.gather.+add_opened.Goals as goal

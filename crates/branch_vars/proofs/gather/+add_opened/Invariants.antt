@@ -1,8 +1,8 @@
 use Rattle.std.proofs.Common.{◌≡◌, ◌≤◌, ◌++◌}
 use Rattle.swc_ast.specs.Scope.{vars_all}
-use Rattle.swc_visit.specs.Kinds.{kind_label}
-use Rattle.swc_visit.specs.Nodes.{children_forest}
-use Rattle.swc_visit.proofs.Caps.{forest_size}
+use Rattle.tree_visit.specs.Kinds.{kind_label}
+use Rattle.tree_visit.specs.Nodes.{children_forest}
+use Rattle.tree_visit.proofs.Caps.{forest_size}
 use Rattle.branch_vars.specs.Names.{names_of, opened_vars}
 use Rattle.branch_vars.proofs.gather.+add_opened.Given as goal
 

@@ -3,7 +3,7 @@ use Rattle.std.proofs.lemmas.Result.{IfOk-weaker}
 use Rattle.swc_ast.specs.Modules.{item_tree}
 use Rattle.swc_ast.specs.Parts.{list_trees}
 use Rattle.swc_resolved.specs.Names.{members}
-use Rattle.swc_visit.specs.Nodes.{children_forest}
+use Rattle.tree_visit.specs.Nodes.{children_forest}
 use Rattle.carry_pass.proofs.Listing.{listed}
 use Rattle.carry_pass.proofs.exports.declared.Goals as goal
 

@@ -1,6 +1,6 @@
 use Rattle.std.proofs.Common.{ap}
-use Rattle.swc_visit.specs.Kinds.{kind_label}
-use Rattle.swc_visit.specs.Nodes.{node_tree, children_forest}
+use Rattle.tree_visit.specs.Kinds.{kind_label}
+use Rattle.tree_visit.specs.Nodes.{node_tree, children_forest}
 use Rattle.carry_reads.proofs.Fronting.{call_adds, case_body, no_case}
 use Rattle.carry_reads.proofs.front.add_case.Goals as goal
 

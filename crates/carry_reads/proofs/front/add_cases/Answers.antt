@@ -1,5 +1,5 @@
 use Rattle.std.proofs.Common.{ap, ◌∙◌}
-use Rattle.swc_visit.specs.Nodes.{node_tree, children_forest, next_forest}
+use Rattle.tree_visit.specs.Nodes.{node_tree, children_forest, next_forest}
 use Rattle.carry_reads.proofs.Fronting.{case_split, no_cases}
 use Rattle.carry_reads.proofs.Readying.{adding_first, adding_next, adding_last, adding_covers}
 use Rattle.carry_reads.proofs.front.add_cases.Goals as goal

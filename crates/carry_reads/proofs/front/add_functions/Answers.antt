@@ -1,6 +1,6 @@
 use Rattle.std.proofs.Common.{ap, ◌∙◌}
 use Rattle.swc_names.specs.Ids.{optional}
-use Rattle.swc_visit.specs.Nodes.{node_tree, children_forest, next_forest}
+use Rattle.tree_visit.specs.Nodes.{node_tree, children_forest, next_forest}
 use Rattle.carry_reads.proofs.Fronting.{item_split, no_items}
 use Rattle.carry_reads.proofs.Readying.{adding_first, adding_next, adding_last, adding_covers}
 use Rattle.carry_reads.proofs.front.add_functions.Goals as goal

@@ -1,7 +1,7 @@
 use Rattle.swc_ast.specs.Scope.{has_name}
-use Rattle.swc_carry.specs.Carry.{list_functions}
-use Rattle.swc_visit.specs.Nodes.{children_forest}
-use Rattle.swc_visit.proofs.Caps.{forest_size}
+use Rattle.carry_rules.specs.Carry.{list_functions}
+use Rattle.tree_visit.specs.Nodes.{children_forest}
+use Rattle.tree_visit.proofs.Caps.{forest_size}
 use Rattle.carry_reads.proofs.Readying.{Adding}
 use Rattle.carry_reads.proofs.front.add_functions.Given as goal
 

@@ -1,7 +1,7 @@
 use Rattle.std.proofs.Common.{ap, ◌∙◌}
 use Rattle.swc_names.specs.Ids.{optional}
-use Rattle.swc_visit.specs.Kinds.{kind_label}
-use Rattle.swc_visit.specs.Nodes.{node_tree, children_forest, next_forest}
+use Rattle.tree_visit.specs.Kinds.{kind_label}
+use Rattle.tree_visit.specs.Nodes.{node_tree, children_forest, next_forest}
 use Rattle.carry_reads.proofs.Fronting.{param_split, no_params}
 use Rattle.carry_reads.proofs.Readying.{adding_first, adding_next, adding_last, adding_covers}
 use Rattle.carry_reads.proofs.front.add_params.Goals as goal

@@ -1,6 +1,6 @@
 use Rattle.swc_ast.specs.Scope.{has_name, param_names}
-use Rattle.swc_visit.specs.Nodes.{children_forest}
-use Rattle.swc_visit.proofs.Caps.{forest_size}
+use Rattle.tree_visit.specs.Nodes.{children_forest}
+use Rattle.tree_visit.proofs.Caps.{forest_size}
 use Rattle.carry_reads.proofs.Readying.{Adding}
 use Rattle.carry_reads.proofs.front.add_params.Given as goal
 

@@ -1,5 +1,5 @@
 use Rattle.std.proofs.Common.{◌∙◌}
-use Rattle.swc_visit.specs.Nodes.{node_tree}
+use Rattle.tree_visit.specs.Nodes.{node_tree}
 use Rattle.carry_reads.proofs.Fronting.{plain_item}
 use Rattle.carry_reads.proofs.front.item_function.Goals as goal
 

@@ -1,6 +1,6 @@
 use Rattle.std.proofs.Common.{◌≤◌, ◌+◌, ◌*◌}
-use Rattle.swc_visit.specs.Nodes.{node_tree, children_forest}
-use Rattle.swc_visit.proofs.Caps.{tree_size, forest_size}
+use Rattle.tree_visit.specs.Nodes.{node_tree, children_forest}
+use Rattle.tree_visit.proofs.Caps.{tree_size, forest_size}
 use Rattle.carry_vars.proofs.Counting.{Left}
 use Rattle.carry_vars.proofs.vars.+count.Given as goal
 

@@ -1,7 +1,7 @@
 use Rattle.std.proofs.Common.{sym, ap, ◌∙◌}
 use Rattle.swc_ast.specs.Parts.{ident_name}
-use Rattle.swc_visit.specs.Kinds.{kind_label}
-use Rattle.swc_visit.specs.Nodes.{children_forest}
+use Rattle.tree_visit.specs.Kinds.{kind_label}
+use Rattle.tree_visit.specs.Nodes.{children_forest}
 use Rattle.swc_names.specs.Ids.{optional}
 use Rattle.carry_vars.proofs.Counting.{some_noted, none_noted}
 use Rattle.carry_vars.proofs.vars.note.Goals as goal

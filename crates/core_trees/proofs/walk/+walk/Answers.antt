@@ -1,9 +1,9 @@
 use Rattle.std.proofs.Common.{Bool, true, false, ◌==◌, refl, sym, ap, ap₂, ◌∙◌, arith}
 use Rattle.swc_ast.specs.Tree.{Name}
 use Rattle.swc_ast.specs.Scope.{has_name}
-use Rattle.swc_visit.specs.Kinds.{kind_label}
-use Rattle.swc_visit.specs.Nodes.{node_tree, children_forest, next_forest}
-use Rattle.swc_visit.proofs.Caps.{opened_smaller}
+use Rattle.tree_visit.specs.Kinds.{kind_label}
+use Rattle.tree_visit.specs.Nodes.{node_tree, children_forest, next_forest}
+use Rattle.tree_visit.proofs.Caps.{opened_smaller}
 use Rattle.swc_resolved.specs.Names.{names}
 use Rattle.swc_resolved.proofs.Binding.{gathered_one}
 use Rattle.core_trees.specs.Inside.{declares, without, fits_inside, all_inside, some_fit, some_inside, vars_apart}

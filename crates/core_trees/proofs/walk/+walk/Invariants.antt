@@ -1,7 +1,7 @@
 use Rattle.std.proofs.Common.{◌≡◌, ◌≤◌, ◌+◌, ◌*◌}
 use Rattle.swc_ast.specs.Core.{fits_all}
-use Rattle.swc_visit.specs.Nodes.{node_tree, children_forest}
-use Rattle.swc_visit.proofs.Caps.{tree_size, forest_size}
+use Rattle.tree_visit.specs.Nodes.{node_tree, children_forest}
+use Rattle.tree_visit.proofs.Caps.{tree_size, forest_size}
 use Rattle.core_trees.specs.Inside.{declares, all_inside, some_inside}
 use Rattle.core_trees.proofs.walk.+walk.Given as goal
 

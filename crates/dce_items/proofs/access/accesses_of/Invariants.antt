@@ -1,5 +1,5 @@
-use Rattle.swc_visit.specs.Nodes.{children_forest}
-use Rattle.swc_visit.proofs.Caps.{forest_size}
+use Rattle.tree_visit.specs.Nodes.{children_forest}
+use Rattle.tree_visit.proofs.Caps.{forest_size}
 use Rattle.dce_items.proofs.access.accesses_of.Given as goal
 
 abbrev pub decreases-loop-item : goal.decreases-loop-item

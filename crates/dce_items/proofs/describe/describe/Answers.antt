@@ -1,6 +1,6 @@
 use Rattle.swc_utils.specs.Globals.{unresolved}
-use Rattle.swc_visit.specs.Kinds.{kind_label}
-use Rattle.swc_visit.specs.Nodes.{node_tree, children_forest}
+use Rattle.tree_visit.specs.Kinds.{kind_label}
+use Rattle.tree_visit.specs.Nodes.{node_tree, children_forest}
 use Rattle.dce_peel.specs.declared.item.Item.{Item}
 use Rattle.dce_items.proofs.Describing.{described_so}
 use Rattle.dce_items.proofs.describe.describe.Goals as goal

@@ -1,6 +1,6 @@
 use Rattle.swc_utils.specs.Globals.{unresolved}
-use Rattle.swc_visit.specs.Nodes.{children_forest}
-use Rattle.swc_visit.proofs.Caps.{forest_size}
+use Rattle.tree_visit.specs.Nodes.{children_forest}
+use Rattle.tree_visit.proofs.Caps.{forest_size}
 use Rattle.dce_items.proofs.Describing.{Left}
 use Rattle.dce_items.proofs.describe.describe_all.Given as goal
 

@@ -1,7 +1,7 @@
 use Rattle.std.proofs.Common.{◌≡◌}
-use Rattle.swc_visit.specs.Nodes.{children_forest}
-use Rattle.swc_visit.proofs.Caps.{forest_size}
-use Rattle.swc_walk.specs.Pass.{are_unvisited}
+use Rattle.tree_visit.specs.Nodes.{children_forest}
+use Rattle.tree_visit.proofs.Caps.{forest_size}
+use Rattle.tree_walk.specs.Pass.{are_unvisited}
 use Rattle.dce_items.proofs.kinds.are_specifiers.Given as goal
 
 abbrev pub invariant-loop-child : goal.invariant-loop-child

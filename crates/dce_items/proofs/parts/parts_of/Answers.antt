@@ -1,5 +1,5 @@
 use Rattle.swc_utils.specs.Globals.{unresolved}
-use Rattle.swc_visit.specs.Nodes.{children_forest}
+use Rattle.tree_visit.specs.Nodes.{children_forest}
 use Rattle.dce_items.proofs.Dividing.{other_item, whole_divides}
 use Rattle.dce_items.proofs.parts.parts_of.Goals as goal
 

@@ -1,6 +1,6 @@
 use Rattle.std.proofs.Common.{◌≡◌, Bool, false, not, refl}
 use Rattle.swc_ast.specs.Tree.{Label}
-use Rattle.swc_visit.specs.Kinds.{kind_label}
+use Rattle.tree_visit.specs.Kinds.{kind_label}
 use Rattle.dce_uses.specs.declared.place.Place.{Place}
 use Rattle.dce_uses.specs.declared.tally.Fact.{Fact}
 use Rattle.dce_uses.specs.declared.tally.Fact.TheVariants as fact

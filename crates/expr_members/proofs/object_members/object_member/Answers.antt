@@ -1,5 +1,5 @@
 use Rattle.std.proofs.Common.{rules, sym, ap, ◌∙◌}
-use Rattle.swc_keys.specs.Keys.{are_keys, keys_of}
+use Rattle.tree_keys.specs.Keys.{are_keys, keys_of}
 use Rattle.swc_utils.specs.Globals.{unresolved}
 use Rattle.expr_members.proofs.MemberSteps.{object_arm}
 use Rattle.expr_members.proofs.Props.{trees_of}

@@ -1,7 +1,7 @@
 -- What the pass itself tells is what the options and its name say.
 use Rattle.std.proofs.Common.{ap, ◌∙◌, map, string_bytes}
 use Rattle.swc_ast.specs.Modules.{module_tree}
-use Rattle.swc_carry.specs.Carry.{constants, inlines}
+use Rattle.carry_rules.specs.Carry.{constants, inlines}
 use Rattle.shake_run.proofs.Running.{is_expr, is_branch, is_dce, is_simplify, is_const, is_inline, is_json, told_is, answers_as, rounds_answer, stays_resolved, propagates_same, propagates_resolved, propagates_valid, propagates_core}
 use Rattle.shake_run.proofs.passes.named_pass.Goals as goal
 

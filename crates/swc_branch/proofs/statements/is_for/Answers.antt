@@ -1,7 +1,7 @@
 use Rattle.std.proofs.Common.{ap, ◌∙◌}
 use Rattle.swc_ast.specs.Views.{stmt_tree}
 use Rattle.swc_ast.specs.Weight.{is_list}
-use Rattle.swc_static.specs.Names.{label_of}
+use Rattle.swc_ast.specs.Tree.{label_of}
 use Rattle.swc_ast.proofs.Equations.{for_tree-is, stmt_tree-For}
 use Rattle.swc_branch.proofs.statements.is_for.Goals as goal
 

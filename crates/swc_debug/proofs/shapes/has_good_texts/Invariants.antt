@@ -1,7 +1,7 @@
 use Rattle.std.proofs.Common.{◌≡◌, map, length}
 use Rattle.swc_ast.specs.Expressions.{quasi_text}
 use Rattle.swc_ast.specs.Valid.{good_texts}
-use Rattle.swc_visit.specs.Nodes.{children_forest}
+use Rattle.tree_visit.specs.Nodes.{children_forest}
 use Rattle.swc_debug.proofs.shapes.has_good_texts.Given as goal
 
 abbrev pub invariant-loop-texts : goal.invariant-loop-texts

@@ -1,7 +1,7 @@
 use Rattle.std.proofs.Common.{◌≡◌}
 use Rattle.swc_ast.specs.Valid.{last_not_listed}
-use Rattle.swc_visit.specs.Nodes.{children_forest}
-use Rattle.swc_visit.proofs.Caps.{forest_size}
+use Rattle.tree_visit.specs.Nodes.{children_forest}
+use Rattle.tree_visit.proofs.Caps.{forest_size}
 use Rattle.swc_debug.proofs.Last.{unlisted_after}
 use Rattle.swc_debug.proofs.shapes.last_not_listed.Given as goal
 

@@ -1,7 +1,7 @@
 use Rattle.std.proofs.Common.{rules, ◌≡◌, ◌<◌, true, length, get_or, IfErr, sym, ap, subst, ◌∙◌, arith}
 use Rattle.std.proofs.lemmas.List.{get_or_default}
 use Rattle.swc_ast.specs.declared.errors.PassError.TheVariants.{OutOfMemory}
-use Rattle.swc_given.specs.Cycles.{is_among}
+use Rattle.given_rules.specs.Cycles.{is_among}
 use Rattle.swc_inline_globals.proofs.Lists.{among_at}
 use Rattle.swc_inline_globals.proofs.Stepping.{if_err, memory_refused, one_more_done}
 use Rattle.swc_inline_globals.proofs.finals.finals.Goals as goal

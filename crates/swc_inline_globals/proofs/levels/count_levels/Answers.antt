@@ -1,6 +1,6 @@
 use Rattle.std.proofs.Common.{length, sym, ap, subst, ◌∙◌, ◌-◌}
 use Rattle.swc_ast.specs.Modules.{module_tree}
-use Rattle.swc_given.proofs.FormedViews.{module_formed}
+use Rattle.given_rules.proofs.FormedViews.{module_formed}
 use Rattle.given_globals.specs.Globals.{answers_of}
 use Rattle.swc_inline_globals.specs.Nesting.{TellsBehind}
 use Rattle.swc_inline_globals.specs.Walking.{AllInRange}

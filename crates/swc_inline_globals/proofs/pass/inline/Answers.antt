@@ -1,8 +1,8 @@
 use Rattle.std.proofs.Common.{rules, ◌≡◌, length, IfErr, sym, ap, subst, ◌∙◌}
 use Rattle.swc_ast.specs.declared.errors.PassError.TheVariants.{OutOfMemory}
 use Rattle.given_shield.specs.Shield.{shield}
-use Rattle.swc_given.specs.Put.{here, put}
-use Rattle.swc_given.specs.Worked.{puts}
+use Rattle.given_rules.specs.Put.{here, put}
+use Rattle.given_rules.specs.Worked.{puts}
 use Rattle.given_globals.specs.Globals.{answers_of}
 use Rattle.swc_inline_globals.specs.Slots.{slots}
 use Rattle.swc_inline_globals.specs.Answers.{Refused, no_memory}

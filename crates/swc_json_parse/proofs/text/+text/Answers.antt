@@ -1,7 +1,7 @@
 use Rattle.std.proofs.Common.{◌∷◌, [], ◌-◌, sym, ap, ◌∙◌, option_map, false, arith}
 use Rattle.swc_ast.specs.Parts.{list_trees}
 use Rattle.swc_ast.specs.Views.{expr_tree, prop_or_spread_tree}
-use Rattle.swc_keys.specs.Keys.{are_keys, keys_of}
+use Rattle.tree_keys.specs.Keys.{are_keys, keys_of}
 use Rattle.swc_json_parse.specs.Written.{text_within, elements_within, members_within}
 use Rattle.swc_json_parse.proofs.Nodes.{no_text, at_lit, at_tpl, at_array, at_object, at_spread, at_key_value, at_shorthand, at_method, member_keyed, keyed}
 use Rattle.swc_json_parse.proofs.Pieces.{wrote_none, wrote_at, took, tail_at, tail_front, element_taken, element_fails, member_taken, member_fails}

@@ -1,6 +1,6 @@
 use Rattle.std.proofs.Common.{◌≡◌, ◌++◌, OnOk, sym, ap, subst, ◌∙◌, arith}
-use Rattle.swc_visit.specs.Kinds.{kind_label}
-use Rattle.swc_visit.specs.Nodes.{children_forest, next_forest}
+use Rattle.tree_visit.specs.Kinds.{kind_label}
+use Rattle.tree_visit.specs.Nodes.{children_forest, next_forest}
 use Rattle.swc_names.specs.Ids.{idents, optional}
 use Rattle.swc_names.specs.Names.{names_among}
 use Rattle.swc_names.proofs.Gathered.{starts, ends}

@@ -1,7 +1,7 @@
 use Rattle.std.proofs.Common.{◌≡◌, sym, ap, ◌∙◌}
 use Rattle.std.specs.Prelude.{option_copied}
 use Rattle.swc_ast.specs.Modules.{item_tree, module_decl_tree}
-use Rattle.swc_visit.specs.Nodes.{label_of, children_of}
+use Rattle.swc_ast.specs.Tree.{label_of, children_of}
 use Rattle.swc_names.proofs.Items.{declared}
 use Rattle.swc_names.proofs.gather.open.Goals as goal
 

@@ -1,6 +1,6 @@
 use Rattle.std.proofs.Common.{sym, ◌∙◌}
-use Rattle.swc_visit.specs.Kinds.{kind_label}
-use Rattle.swc_visit.specs.Nodes.{children_forest}
+use Rattle.tree_visit.specs.Kinds.{kind_label}
+use Rattle.tree_visit.specs.Nodes.{children_forest}
 use Rattle.swc_resolved.proofs.Beside.{plain_apart}
 use Rattle.swc_resolved.proofs.apart.is_own_apart.Goals as goal
 

@@ -1,6 +1,6 @@
 use Rattle.std.proofs.Common.{◌≡◌, ◌≤◌, ◌+◌, ◌*◌, ◌++◌}
-use Rattle.swc_visit.specs.Nodes.{node_tree, children_forest}
-use Rattle.swc_visit.proofs.Caps.{tree_size, forest_size}
+use Rattle.tree_visit.specs.Nodes.{node_tree, children_forest}
+use Rattle.tree_visit.proofs.Caps.{tree_size, forest_size}
 use Rattle.swc_resolved.specs.Names.{names}
 use Rattle.swc_resolved.specs.Parts.{forest_names}
 use Rattle.swc_resolved.proofs.declared.+names.Given as goal

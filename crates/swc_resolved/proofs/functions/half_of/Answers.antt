@@ -1,6 +1,6 @@
 use Rattle.std.proofs.Common.{sym, ap, ◌∙◌}
-use Rattle.swc_visit.specs.Kinds.{kind_label}
-use Rattle.swc_visit.specs.Nodes.{node_tree, children_forest, next_forest}
+use Rattle.tree_visit.specs.Kinds.{kind_label}
+use Rattle.tree_visit.specs.Nodes.{node_tree, children_forest, next_forest}
 use Rattle.swc_resolved.proofs.Halves.{half_here, half_behind}
 use Rattle.swc_resolved.proofs.functions.half_of.Goals as goal
 

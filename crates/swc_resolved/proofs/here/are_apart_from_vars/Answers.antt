@@ -1,6 +1,6 @@
 use Rattle.std.proofs.Common.{ap, ◌∙◌}
 use Rattle.swc_ast.specs.Scope.{vars_all}
-use Rattle.swc_visit.specs.Nodes.{children_forest}
+use Rattle.tree_visit.specs.Nodes.{children_forest}
 use Rattle.swc_resolved.specs.Names.{names}
 use Rattle.swc_resolved.proofs.Lists.{apart_from}
 use Rattle.swc_resolved.proofs.here.are_apart_from_vars.Goals as goal

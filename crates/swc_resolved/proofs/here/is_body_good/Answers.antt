@@ -1,7 +1,7 @@
 use Rattle.std.proofs.Common.{sym, ap, ◌∙◌}
 use Rattle.std.specs.Prelude.{◌&&◌}
 use Rattle.swc_ast.specs.Core.{good_list, list_names, once_each, none_in}
-use Rattle.swc_visit.specs.Nodes.{children_forest}
+use Rattle.tree_visit.specs.Nodes.{children_forest}
 use Rattle.swc_resolved.specs.Names.{names}
 use Rattle.swc_resolved.proofs.Lists.{first_false, first_true, apart_as, apart_turned}
 use Rattle.swc_resolved.proofs.here.is_body_good.Goals as goal

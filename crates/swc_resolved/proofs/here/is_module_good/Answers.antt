@@ -2,7 +2,7 @@ use Rattle.std.proofs.Common.{sym, ap, ◌∙◌}
 use Rattle.std.specs.Prelude.{◌&&◌}
 use Rattle.swc_ast.specs.Core.{good_list, list_names, once_each, none_in}
 use Rattle.swc_ast.specs.Scope.{import_names, vars_all}
-use Rattle.swc_visit.specs.Nodes.{children_forest}
+use Rattle.tree_visit.specs.Nodes.{children_forest}
 use Rattle.swc_resolved.specs.Names.{names}
 use Rattle.swc_resolved.proofs.Lists.{two_lists, turned_too, list_fails, body_fails, all_hold}
 use Rattle.swc_resolved.proofs.here.is_module_good.Goals as goal

@@ -2,8 +2,8 @@ use Rattle.std.proofs.Common.{◌≡◌, true, sym, ap, subst, ◌∙◌}
 use Rattle.std.proofs.lemmas.Bool.{false≢true}
 use Rattle.swc_ast.specs.Marks.{mark_number}
 use Rattle.swc_ast.specs.Resolved.{no_targets, below, own_scopes, scopes_all, own_exports_bound}
-use Rattle.swc_visit.specs.Kinds.{kind_label}
-use Rattle.swc_visit.specs.Nodes.{node_tree, children_forest}
+use Rattle.tree_visit.specs.Kinds.{kind_label}
+use Rattle.tree_visit.specs.Nodes.{node_tree, children_forest}
 use Rattle.swc_resolved.specs.Names.{is_taken}
 use Rattle.swc_resolved.specs.Scopes.{Binds}
 use Rattle.swc_resolved.specs.Asked.{own_good, good_all, Passes}

@@ -1,7 +1,7 @@
 use Rattle.std.proofs.Common.{◌≡◌, ◌+◌, ◌-◌, ◌^◌, ◌<◌, ◌≤◌, min}
 use Rattle.swc_ast.specs.Weight.{weight, weight_all}
-use Rattle.swc_visit.specs.Nodes.{node_tree, children_forest}
-use Rattle.swc_visit.proofs.Caps.{tree_size, forest_size}
+use Rattle.tree_visit.specs.Nodes.{node_tree, children_forest}
+use Rattle.tree_visit.proofs.Caps.{tree_size, forest_size}
 use Rattle.swc_weight.proofs.weights.+weight_of.Given as goal
 
 abbrev pub decreases-weight_of : goal.decreases-weight_of

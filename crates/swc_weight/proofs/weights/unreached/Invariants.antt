@@ -1,7 +1,7 @@
 use Rattle.std.proofs.Common.{◌≡◌}
 use Rattle.swc_ast.specs.Weight.{unreached}
-use Rattle.swc_visit.specs.Nodes.{children_forest}
-use Rattle.swc_visit.proofs.Caps.{forest_size}
+use Rattle.tree_visit.specs.Nodes.{children_forest}
+use Rattle.tree_visit.proofs.Caps.{forest_size}
 use Rattle.swc_weight.proofs.weights.unreached.Given as goal
 
 abbrev pub invariant-loop-child : goal.invariant-loop-child

@@ -1,6 +1,6 @@
 use Rattle.std.proofs.Common.{rules, refl}
-use Rattle.swc_put.specs.Walks.{none}
-use Rattle.swc_put.proofs.Putting.{each_all, each_more}
+use Rattle.tree_put.specs.Walks.{none}
+use Rattle.tree_put.proofs.Putting.{each_all, each_more}
 use Rattle.carry_pass.specs.Exports.{binds, values}
 use Rattle.carry_pass.proofs.Exporting.{all_renamed}
 use Rattle.carry_pass.proofs.exports.Exports.rename_each.Goals as goal

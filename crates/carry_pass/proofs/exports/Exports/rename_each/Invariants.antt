@@ -1,6 +1,6 @@
 use Rattle.std.proofs.Common.{◌≡◌, ℕ, ◌≤◌, length, get_or, take}
 use Rattle.swc_ast.specs.declared.modules.ExportNamedSpecifier.{ExportNamedSpecifier}
-use Rattle.swc_put.specs.Walks.{Each}
+use Rattle.tree_put.specs.Walks.{Each}
 use Rattle.carry_pass.specs.Exports.{binds, values}
 use Rattle.carry_pass.proofs.Exporting.{Renames}
 use Rattle.carry_pass.proofs.exports.Exports.rename_each.Given as goal

@@ -1,4 +1,4 @@
-use Rattle.swc_carry_facts.proofs.Same.{script_whole}
+use Rattle.carry_proofs.proofs.Same.{script_whole}
 use Rattle.carry_pass.proofs.readable.ScriptReadable.names.Goals as goal
 
 pub returns-clause-whole : goal.returns-clause-whole

@@ -1,6 +1,6 @@
 use Rattle.std.specs.Prelude.{map}
 use Rattle.swc_ast.specs.Modules.{module_tree}
-use Rattle.swc_given.proofs.FormedViews.{module_formed}
+use Rattle.given_rules.proofs.FormedViews.{module_formed}
 use Rattle.carry_parts.specs.Carries.{pass_of, puts_of}
 use Rattle.carry_puts.specs.Values.{state_of}
 use Rattle.carry_puts.proofs.Written.{call_put}

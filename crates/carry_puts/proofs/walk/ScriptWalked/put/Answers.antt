@@ -1,6 +1,6 @@
 use Rattle.std.specs.Prelude.{map}
 use Rattle.swc_ast.specs.Modules.{script_tree}
-use Rattle.swc_given.proofs.FormedViews.{script_formed}
+use Rattle.given_rules.proofs.FormedViews.{script_formed}
 use Rattle.carry_parts.specs.Carries.{pass_of, puts_of}
 use Rattle.carry_puts.specs.Values.{state_of}
 use Rattle.carry_puts.proofs.Written.{call_put}

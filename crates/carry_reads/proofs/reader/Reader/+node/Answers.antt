@@ -1,6 +1,6 @@
 use Rattle.std.proofs.Common.{ap, ◌∙◌, arith}
-use Rattle.swc_visit.specs.Kinds.{kind_label}
-use Rattle.swc_visit.specs.Nodes.{node_tree, children_forest, next_forest}
+use Rattle.tree_visit.specs.Kinds.{kind_label}
+use Rattle.tree_visit.specs.Nodes.{node_tree, children_forest, next_forest}
 use Rattle.carry_parts.specs.Carries.{pass_of}
 use Rattle.carry_reads.specs.Walks.{puts}
 use Rattle.carry_reads.proofs.Stating.{grown_fits, added_grown}

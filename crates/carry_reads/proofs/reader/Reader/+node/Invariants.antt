@@ -1,6 +1,6 @@
 use Rattle.std.proofs.Common.{◌+◌, ◌*◌}
-use Rattle.swc_visit.specs.Nodes.{node_tree, children_forest}
-use Rattle.swc_visit.proofs.Caps.{tree_size, forest_size}
+use Rattle.tree_visit.specs.Nodes.{node_tree, children_forest}
+use Rattle.tree_visit.proofs.Caps.{tree_size, forest_size}
 use Rattle.carry_reads.specs.Walks.{puts}
 use Rattle.carry_reads.proofs.Walking.{Left}
 use Rattle.carry_reads.proofs.reader.Reader.+node.Given as goal

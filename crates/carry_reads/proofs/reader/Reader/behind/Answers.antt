@@ -2,7 +2,7 @@ use Rattle.std.proofs.Common.{◌≡◌, inl, inr, ap, subst, ◌∙◌}
 use Rattle.swc_ast.specs.declared.VarDeclKind.TheVariants.{Var, Let, Const}
 use Rattle.swc_ast.specs.Statements.{declarator_tree}
 use Rattle.swc_ast.specs.Views.{expr_tree}
-use Rattle.swc_visit.specs.Nodes.{node_tree}
+use Rattle.tree_visit.specs.Nodes.{node_tree}
 use Rattle.carry_reads.specs.Declarations.{IsDeclared}
 use Rattle.carry_reads.proofs.Walking.{call_steps}
 use Rattle.carry_reads.proofs.reader.Reader.behind.Goals as goal

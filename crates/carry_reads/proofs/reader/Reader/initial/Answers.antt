@@ -1,7 +1,8 @@
 use Rattle.std.proofs.Common.{[], ◌∷◌, refl, sym, ap, ◌∙◌}
+use Rattle.swc_ast.specs.Tree.{label_of, children_of}
 use Rattle.swc_ast.specs.Views.{expr_tree}
-use Rattle.swc_visit.specs.Kinds.{kind_label}
-use Rattle.swc_visit.specs.Nodes.{label_of, children_of, children_forest}
+use Rattle.tree_visit.specs.Kinds.{kind_label}
+use Rattle.tree_visit.specs.Nodes.{children_forest}
 use Rattle.carry_parts.specs.Carries.{pass_of, is_read_tree}
 use Rattle.carry_reads.specs.States.{state_of}
 use Rattle.carry_reads.proofs.Initialising.{other_init}

@@ -2,8 +2,8 @@ use Rattle.std.proofs.Common.{◌≡◌, sym, ap, subst, [], ◌∷◌, ◌∙�
 use Rattle.swc_ast.specs.Parts.{ident_name, optional_trees}
 use Rattle.swc_ast.specs.Tree.{Name}
 use Rattle.swc_ast.specs.Views.{expr_tree}
-use Rattle.swc_links.specs.Links.{Put}
-use Rattle.swc_carry.specs.Carry.{with_put}
+use Rattle.link_proofs.specs.Links.{Put}
+use Rattle.carry_rules.specs.Carry.{with_put}
 use Rattle.carry_parts.specs.Carries.{pass_of, puts_of}
 use Rattle.carry_reads.specs.Settles.{settled_of}
 use Rattle.carry_reads.specs.States.{state_of}

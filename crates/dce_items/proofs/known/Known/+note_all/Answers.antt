@@ -1,6 +1,6 @@
 use Rattle.std.proofs.Common.{ap, ◌∙◌}
-use Rattle.swc_visit.specs.Kinds.{kind_label}
-use Rattle.swc_visit.specs.Nodes.{node_tree, children_forest, next_forest}
+use Rattle.tree_visit.specs.Kinds.{kind_label}
+use Rattle.tree_visit.specs.Nodes.{node_tree, children_forest, next_forest}
 use Rattle.dce_items.proofs.Noting.{goes_on}
 use Rattle.dce_items.proofs.Sizes.{rest_within}
 use Rattle.dce_items.proofs.known.Known.+note_all.Goals as goal

@@ -1,6 +1,6 @@
-use Rattle.swc_visit.specs.Kinds.{kind_label}
-use Rattle.swc_visit.specs.Nodes.{children_forest}
-use Rattle.dce_layers.specs.Goers.{mentions_among, own_mention}
+use Rattle.tree_visit.specs.Kinds.{kind_label}
+use Rattle.tree_visit.specs.Nodes.{children_forest}
+use Rattle.dce_layer_proofs.specs.Goers.{mentions_among, own_mention}
 use Rattle.dce_items.proofs.Noting.{two}
 use Rattle.dce_items.proofs.known.Known.note.Goals as goal
 

@@ -1,6 +1,6 @@
 use Rattle.std.proofs.Common.{ap, ◌∙◌, arith}
-use Rattle.swc_visit.specs.Kinds.{kind_label}
-use Rattle.swc_visit.specs.Nodes.{node_tree, children_forest, next_forest}
+use Rattle.tree_visit.specs.Kinds.{kind_label}
+use Rattle.tree_visit.specs.Nodes.{node_tree, children_forest, next_forest}
 use Rattle.swc_names.specs.Ids.{optional}
 use Rattle.dce_uses.specs.Noted.{noted, noted_among}
 use Rattle.dce_uses.proofs.Adding.{begins, goes_on, ends}

@@ -1,6 +1,6 @@
 use Rattle.std.proofs.Common.{◌≤◌}
-use Rattle.swc_visit.specs.Nodes.{children_forest}
-use Rattle.swc_visit.proofs.Caps.{forest_size}
+use Rattle.tree_visit.specs.Nodes.{children_forest}
+use Rattle.tree_visit.proofs.Caps.{forest_size}
 use Rattle.dce_uses.proofs.Adding.{Going}
 use Rattle.dce_uses.proofs.Counting.{declared_hidden}
 use Rattle.dce_uses.proofs.table.Table.+hide_declared.Given as goal

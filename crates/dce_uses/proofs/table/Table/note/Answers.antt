@@ -1,5 +1,5 @@
 use Rattle.std.proofs.lemmas.Result.{on_ok_weaker}
-use Rattle.swc_visit.specs.Kinds.{kind_label}
+use Rattle.tree_visit.specs.Kinds.{kind_label}
 use Rattle.dce_uses.specs.Noted.{by_naming, by_declaring}
 use Rattle.dce_uses.proofs.Adding.{next}
 use Rattle.dce_uses.proofs.table.Table.note.Goals as goal

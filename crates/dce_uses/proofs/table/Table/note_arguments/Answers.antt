@@ -1,7 +1,7 @@
 use Rattle.std.proofs.Common.{sym, ◌∙◌}
 use Rattle.std.proofs.lemmas.Result.{on_ok_weaker}
-use Rattle.swc_visit.specs.Kinds.{kind_label}
-use Rattle.swc_visit.specs.Nodes.{children_forest}
+use Rattle.tree_visit.specs.Kinds.{kind_label}
+use Rattle.tree_visit.specs.Nodes.{children_forest}
 use Rattle.dce_uses.proofs.Counting.{with_params}
 use Rattle.dce_uses.proofs.table.Table.note_arguments.Goals as goal
 

@@ -1,7 +1,7 @@
 use Rattle.std.proofs.Common.{[], ◌∷◌, sym, ap, ◌∙◌}
 use Rattle.std.proofs.lemmas.Result.{on_ok_weaker}
 use Rattle.swc_ast.specs.Parts.{ident_name}
-use Rattle.swc_visit.specs.Kinds.{kind_label}
+use Rattle.tree_visit.specs.Kinds.{kind_label}
 use Rattle.swc_names.specs.Ids.{optional}
 use Rattle.dce_rules.specs.Uses.{declared_by_node}
 use Rattle.dce_uses.specs.Noted.{declaring}

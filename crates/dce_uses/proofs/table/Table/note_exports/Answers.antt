@@ -1,6 +1,6 @@
 use Rattle.std.proofs.Common.{ap, ◌∙◌}
-use Rattle.swc_visit.specs.Kinds.{kind_label}
-use Rattle.swc_visit.specs.Nodes.{node_tree, children_forest, next_forest}
+use Rattle.tree_visit.specs.Kinds.{kind_label}
+use Rattle.tree_visit.specs.Nodes.{node_tree, children_forest, next_forest}
 use Rattle.dce_uses.specs.Noted.{is_hiding}
 use Rattle.dce_uses.specs.Exports.{item_names, exported_names}
 use Rattle.dce_uses.proofs.Lists.{more_names, no_more_names, exported_split}

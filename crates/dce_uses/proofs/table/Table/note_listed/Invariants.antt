@@ -1,5 +1,5 @@
-use Rattle.swc_visit.specs.Nodes.{children_forest}
-use Rattle.swc_visit.proofs.Caps.{forest_size}
+use Rattle.tree_visit.specs.Nodes.{children_forest}
+use Rattle.tree_visit.proofs.Caps.{forest_size}
 use Rattle.dce_uses.specs.Noted.{is_hiding}
 use Rattle.dce_uses.specs.Listed.{listed}
 use Rattle.dce_uses.proofs.Lists.{Left}

@@ -1,6 +1,6 @@
 use Rattle.std.proofs.lemmas.Result.{on_ok_weaker}
-use Rattle.swc_visit.specs.Kinds.{kind_label}
-use Rattle.swc_visit.specs.Nodes.{children_forest}
+use Rattle.tree_visit.specs.Kinds.{kind_label}
+use Rattle.tree_visit.specs.Nodes.{children_forest}
 use Rattle.dce_uses.specs.Noted.{by_arguments, by_eval}
 use Rattle.dce_uses.proofs.Adding.{next}
 use Rattle.dce_uses.proofs.table.Table.note_unnamed.Goals as goal

@@ -2,7 +2,7 @@ use Rattle.std.proofs.Common.{◌≡◌, refl}
 use Rattle.std.specs.BTreeMap.{get_by_text}
 use Rattle.swc_ast.specs.Tree.{Text}
 use Rattle.swc_ast.specs.Views.{expr_tree}
-use Rattle.const_rules.specs.Views.{in_exports}
+use Rattle.const_imports.specs.Views.{in_exports}
 use Rattle.shake_given.proofs.Texts.{given_after, exports_after, had, had_none}
 use Rattle.shake_given.proofs.given.Given.set_export.Goals.{in-Some, in-None}
 use Rattle.shake_given.proofs.given.Given.set_export.Goals as goal

@@ -1,5 +1,5 @@
 use Rattle.std.proofs.Common.{sym, subst}
-use Rattle.swc_walk.specs.Walks.{Fits}
+use Rattle.tree_walk.specs.Walks.{Fits}
 use Rattle.swc_branch.proofs.Resting.{expr_rests}
 use Rattle.swc_branch.proofs.Shields.{folded_at, unfolded_at, shielded_fits}
 use Rattle.swc_branch.proofs.rules.BranchRulesRules.leave_expr.Goals as goal

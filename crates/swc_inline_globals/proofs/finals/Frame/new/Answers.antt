@@ -1,8 +1,8 @@
 use Rattle.std.proofs.Common.{option_map, refl, sym, ap, ◌∙◌}
 use Rattle.swc_ast.specs.Views.{expr_tree}
 use Rattle.swc_pass.specs.Given.{or_invalid}
-use Rattle.swc_given.proofs.FormedViews.{expr_formed}
-use Rattle.swc_given.specs.Met.{met}
+use Rattle.given_rules.proofs.FormedViews.{expr_formed}
+use Rattle.given_rules.specs.Met.{met}
 use Rattle.given_globals.specs.Globals.{answers_of}
 use Rattle.swc_inline_globals.proofs.Passing.{gather_tells}
 use Rattle.swc_inline_globals.proofs.finals.Frame.new.Goals as goal

@@ -1,9 +1,9 @@
 use Rattle.std.proofs.Common.{refl, ap, ◌∙◌}
 use Rattle.swc_ast.specs.Views.{expr_tree}
 use Rattle.given_shield.specs.Shield.{shield}
-use Rattle.swc_given.specs.Put.{here, put}
-use Rattle.swc_given.specs.Worked.{puts}
-use Rattle.swc_given.proofs.FormedViews.{expr_formed}
+use Rattle.given_rules.specs.Put.{here, put}
+use Rattle.given_rules.specs.Worked.{puts}
+use Rattle.given_rules.proofs.FormedViews.{expr_formed}
 use Rattle.given_globals.specs.Globals.{answers_of}
 use Rattle.swc_inline_globals.specs.Slots.{slots}
 use Rattle.swc_inline_globals.proofs.Passing.{walk_puts}

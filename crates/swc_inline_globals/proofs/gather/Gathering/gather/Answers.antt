@@ -1,7 +1,7 @@
 use Rattle.std.proofs.Common.{sym, ap, ◌∙◌}
 use Rattle.swc_ast.specs.Views.{expr_tree}
 use Rattle.swc_pass.specs.Given.{a_value, a_plain}
-use Rattle.swc_put.specs.Puts.{stay}
+use Rattle.tree_put.specs.Puts.{stay}
 use Rattle.given_globals.specs.Globals.{answers_of}
 use Rattle.given_globals.specs.Rows.{found_of}
 use Rattle.swc_inline_globals.proofs.Founds.{gathered_found}

@@ -1,7 +1,7 @@
 use Rattle.std.proofs.Common.{◌≡◌, IfOk, subst, ◌∙◌}
 use Rattle.swc_ast.proofs.Equations.{expr_tree-Ident}
-use Rattle.swc_put.specs.Answers.{answer_of}
-use Rattle.swc_given.specs.Walk.{found_at, gathered}
+use Rattle.tree_put.specs.Answers.{answer_of}
+use Rattle.given_rules.specs.Walk.{found_at, gathered}
 use Rattle.given_globals.specs.Globals.{answers_of}
 use Rattle.swc_inline_globals.proofs.gather.GatheringPuts.property.Goals as goal
 

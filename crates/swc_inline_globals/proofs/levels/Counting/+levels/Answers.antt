@@ -2,7 +2,7 @@ use Rattle.std.proofs.Common.{ℕ, ◌+◌, ◌<◌, ◌∷◌, [], length, get_
 use Rattle.std.proofs.lemmas.Option.{slice_get-get_or}
 use Rattle.swc_ast.specs.Views.{expr_tree}
 use Rattle.swc_pass.specs.Given.{value_at}
-use Rattle.swc_given.specs.Met.{met}
+use Rattle.given_rules.specs.Met.{met}
 use Rattle.given_globals.specs.Globals.{answers_of}
 use Rattle.swc_inline_globals.specs.Nesting.{FewerBegun, IsFewer, Told, TellsBehind, TellsOfValue, Lead}
 use Rattle.swc_inline_globals.specs.Walking.{AllInRange}

@@ -1,6 +1,6 @@
 use Rattle.std.proofs.Common.{refl}
 use Rattle.swc_ast.specs.Modules.{module_tree}
-use Rattle.swc_given.proofs.ByWalk.{a_module}
+use Rattle.given_rules.proofs.ByWalk.{a_module}
 use Rattle.swc_inline_globals.proofs.Answered.{some_inlined, none_inlined, some_tells, none_tells}
 use Rattle.swc_inline_globals.proofs.pass.InlineGlobals.fold_module.Goals as goal
 

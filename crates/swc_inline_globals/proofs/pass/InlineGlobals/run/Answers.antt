@@ -1,7 +1,7 @@
 use Rattle.std.proofs.Common.{rules, ◌≡◌, IfErr, sym, subst}
 use Rattle.swc_ast.specs.Modules.{module_tree}
 use Rattle.swc_ast.specs.declared.errors.PassError.TheVariants.{OutOfMemory}
-use Rattle.swc_given.proofs.ByWalk.{a_module}
+use Rattle.given_rules.proofs.ByWalk.{a_module}
 use Rattle.swc_inline_globals.specs.Answers.{Refused, no_memory}
 use Rattle.swc_inline_globals.proofs.Stepping.{if_err}
 use Rattle.swc_inline_globals.proofs.Answered.{some_inlined, none_inlined, some_tells, none_tells}

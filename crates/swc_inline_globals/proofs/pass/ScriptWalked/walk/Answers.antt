@@ -1,5 +1,5 @@
 use Rattle.std.proofs.Common.{refl}
-use Rattle.swc_given.proofs.FormedViews.{script_formed}
+use Rattle.given_rules.proofs.FormedViews.{script_formed}
 use Rattle.swc_inline_globals.proofs.pass.ScriptWalked.walk.Goals as goal
 
 pub returns-clause-whole : goal.returns-clause-whole

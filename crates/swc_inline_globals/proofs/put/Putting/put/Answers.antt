@@ -2,8 +2,8 @@ use Rattle.std.proofs.Common.{sym, ap, ◌∙◌}
 use Rattle.swc_ast.specs.Views.{expr_tree}
 use Rattle.swc_ast.proofs.Equations.{expr_tree-Unary}
 use Rattle.given_shield.specs.Shield.{shield}
-use Rattle.swc_given.specs.Walk.{answer}
-use Rattle.swc_given.specs.Worked.{put_found, put_expression}
+use Rattle.given_rules.specs.Walk.{answer}
+use Rattle.given_rules.specs.Worked.{put_found, put_expression}
 use Rattle.given_globals.specs.Globals.{answers_of}
 use Rattle.swc_inline_globals.specs.Slots.{slots}
 use Rattle.swc_inline_globals.proofs.Forms.{other_operator}

@@ -4,10 +4,10 @@ use Rattle.swc_ast.specs.Parts.{ident_name}
 use Rattle.swc_ast.specs.Views.{expr_tree}
 use Rattle.swc_ast.proofs.Equations.{expr_tree-Ident, expr_tree-Lit}
 use Rattle.swc_ast.specs.Tree.{StrLit, node, ε}
-use Rattle.swc_put.specs.Puts.{become}
+use Rattle.tree_put.specs.Puts.{become}
 use Rattle.given_shield.specs.Shield.{shield}
-use Rattle.swc_given.specs.Walk.{answer}
-use Rattle.swc_given.specs.Worked.{put_text, put_expression}
+use Rattle.given_rules.specs.Walk.{answer}
+use Rattle.given_rules.specs.Worked.{put_text, put_expression}
 use Rattle.given_globals.specs.Globals.{answers_of}
 use Rattle.given_globals.specs.Rows.{found_of}
 use Rattle.swc_inline_globals.specs.Slots.{slots}

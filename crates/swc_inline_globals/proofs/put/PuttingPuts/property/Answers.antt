@@ -1,9 +1,9 @@
 use Rattle.std.proofs.Common.{sym, ap, ◌∙◌}
 use Rattle.swc_ast.proofs.Equations.{expr_tree-Ident}
-use Rattle.swc_put.specs.declared.rules.Spot.TheVariants.{Property}
+use Rattle.tree_put.specs.declared.rules.Spot.TheVariants.{Property}
 use Rattle.given_shield.specs.Shield.{shield}
-use Rattle.swc_given.specs.Walk.{answer}
-use Rattle.swc_given.specs.Worked.{put_expression}
+use Rattle.given_rules.specs.Walk.{answer}
+use Rattle.given_rules.specs.Worked.{put_expression}
 use Rattle.given_globals.specs.Globals.{answers_of}
 use Rattle.swc_inline_globals.specs.Slots.{slots}
 use Rattle.swc_inline_globals.proofs.Founds.{ok_map}

@@ -1,6 +1,6 @@
 use Rattle.std.proofs.Common.{false, subst, arith}
 use Rattle.swc_pass.specs.Repeat.{Rounds}
-use Rattle.round_laws.specs.Rested.{AtRest, Rested}
+use Rattle.round_proofs.specs.Rested.{AtRest, Rested}
 use Rattle.swc_optimization.proofs.Turns.{only_rested, rested_then}
 use Rattle.swc_optimization.proofs.rounds.Passes.shake_at_rest.Goals as goal
 

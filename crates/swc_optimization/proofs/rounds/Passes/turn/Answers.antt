@@ -1,5 +1,5 @@
 use Rattle.std.proofs.Common.{not, sym, subst}
-use Rattle.round_laws.specs.Rested.{AtRest}
+use Rattle.round_proofs.specs.Rested.{AtRest}
 use Rattle.swc_dce.specs.Shaken.{Shaken}
 use Rattle.swc_optimization.specs.Turns.{Turned}
 use Rattle.swc_optimization.proofs.Turns.{still_rests, one_round}

@@ -1,7 +1,7 @@
 use Rattle.std.proofs.Common.{◌≡◌, ◌+◌, IfOk, true, ap, sym, subst, ◌∙◌, arith}
 use Rattle.swc_ast.specs.Resolved.{one_if, own_scopes, scopes, scopes_all}
-use Rattle.swc_visit.specs.Kinds.{kind_label}
-use Rattle.swc_visit.specs.Nodes.{node_tree, children_forest, next_forest}
+use Rattle.tree_visit.specs.Kinds.{kind_label}
+use Rattle.tree_visit.specs.Nodes.{node_tree, children_forest, next_forest}
 use Rattle.swc_resolved.specs.Jumps.{targets}
 use Rattle.swc_resolved.specs.Names.{is_taken}
 use Rattle.swc_resolved.specs.Scopes.{Binds}

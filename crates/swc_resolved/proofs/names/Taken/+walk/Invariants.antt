@@ -1,8 +1,8 @@
 use Rattle.std.proofs.Common.{◌≡◌, ◌≤◌, ◌+◌, ◌*◌}
 use Rattle.swc_ast.specs.Resolved.{one_if, scopes_all}
 use Rattle.swc_ast.specs.Tree.{Name}
-use Rattle.swc_visit.specs.Nodes.{node_tree, children_forest}
-use Rattle.swc_visit.proofs.Caps.{tree_size, forest_size}
+use Rattle.tree_visit.specs.Nodes.{node_tree, children_forest}
+use Rattle.tree_visit.proofs.Caps.{tree_size, forest_size}
 use Rattle.swc_resolved.specs.Jumps.{targets}
 use Rattle.swc_resolved.specs.Names.{is_taken}
 use Rattle.swc_resolved.specs.Asked.{good_all}

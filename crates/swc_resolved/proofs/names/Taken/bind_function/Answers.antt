@@ -2,7 +2,7 @@ use Rattle.std.proofs.Common.{◌≡◌, ◌++◌, false, true, sym, ap, subst, 
 use Rattle.std.specs.Prelude.{◌+◌}
 use Rattle.swc_ast.specs.Scope.{has_name, param_names}
 use Rattle.swc_ast.specs.Resolved.{one_if, function_scopes, params_of, body_of, has_default, declared_names}
-use Rattle.swc_visit.specs.Nodes.{children_forest}
+use Rattle.tree_visit.specs.Nodes.{children_forest}
 use Rattle.swc_resolved.specs.Names.{names, is_taken}
 use Rattle.swc_resolved.specs.Scopes.{Binds}
 use Rattle.swc_resolved.proofs.Binding.{gathered_one, gathered_two, last_binds_as, last_binds, one_scope, two_scopes}

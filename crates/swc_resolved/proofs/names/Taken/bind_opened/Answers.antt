@@ -2,8 +2,8 @@ use Rattle.std.proofs.Common.{◌≡◌, false, true, sym, ap, subst, ◌∙◌}
 use Rattle.std.specs.Prelude.{◌+◌}
 use Rattle.swc_ast.specs.Scope.{has_name, is_function}
 use Rattle.swc_ast.specs.Resolved.{one_if, function_scopes, own_scopes}
-use Rattle.swc_visit.specs.Kinds.{kind_label}
-use Rattle.swc_visit.specs.Nodes.{children_forest}
+use Rattle.tree_visit.specs.Kinds.{kind_label}
+use Rattle.tree_visit.specs.Nodes.{children_forest}
 use Rattle.swc_resolved.specs.Names.{names, is_taken}
 use Rattle.swc_resolved.specs.Scopes.{own_names, Binds}
 use Rattle.swc_resolved.proofs.Binding.{gathered_one, last_binds_as, last_binds, stops_here, no_function, with_function}

@@ -1,6 +1,6 @@
 use Rattle.std.proofs.Common.{sym, ◌∙◌}
-use Rattle.swc_visit.specs.Kinds.{kind_label}
-use Rattle.swc_visit.specs.Nodes.{children_forest}
+use Rattle.tree_visit.specs.Kinds.{kind_label}
+use Rattle.tree_visit.specs.Nodes.{children_forest}
 use Rattle.swc_resolved.specs.Names.{is_taken}
 use Rattle.swc_resolved.proofs.Binding.{none_opened}
 use Rattle.swc_resolved.proofs.names.Taken.bind_own.Goals as goal

@@ -1,6 +1,6 @@
 use Rattle.std.proofs.Common.{sym, ap, ◌∙◌}
 use Rattle.swc_ast.specs.Marks.{mark_number}
-use Rattle.swc_visit.specs.Nodes.{node_tree, children_forest, next_forest}
+use Rattle.tree_visit.specs.Nodes.{node_tree, children_forest, next_forest}
 use Rattle.swc_resolved.specs.Exports.{is_bound}
 use Rattle.swc_resolved.proofs.Specifiers.{item_refused, items_behind}
 use Rattle.swc_resolved.proofs.names.Taken.exports_bound.Goals as goal

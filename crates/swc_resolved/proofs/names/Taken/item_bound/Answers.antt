@@ -1,7 +1,7 @@
 use Rattle.std.proofs.Common.{sym, ◌∙◌}
 use Rattle.swc_ast.specs.Marks.{mark_number}
-use Rattle.swc_visit.specs.Kinds.{kind_label}
-use Rattle.swc_visit.specs.Nodes.{node_tree, children_forest}
+use Rattle.tree_visit.specs.Kinds.{kind_label}
+use Rattle.tree_visit.specs.Nodes.{node_tree, children_forest}
 use Rattle.swc_resolved.specs.Exports.{is_bound}
 use Rattle.swc_resolved.proofs.Specifiers.{item_exports, item_plain}
 use Rattle.swc_resolved.proofs.names.Taken.item_bound.Goals as goal

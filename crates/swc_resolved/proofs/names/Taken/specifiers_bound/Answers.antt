@@ -1,7 +1,7 @@
 use Rattle.std.proofs.Common.{sym, ap, ◌∙◌}
 use Rattle.swc_ast.specs.Marks.{mark_number}
-use Rattle.swc_visit.specs.Kinds.{kind_label}
-use Rattle.swc_visit.specs.Nodes.{node_tree, children_forest, next_forest}
+use Rattle.tree_visit.specs.Kinds.{kind_label}
+use Rattle.tree_visit.specs.Nodes.{node_tree, children_forest, next_forest}
 use Rattle.swc_resolved.specs.Exports.{is_bound}
 use Rattle.swc_resolved.proofs.Specifiers.{specifier_refused, specifiers_behind}
 use Rattle.swc_resolved.proofs.names.Taken.specifiers_bound.Goals as goal

@@ -1,8 +1,8 @@
 use Rattle.std.proofs.Common.{◌≡◌}
 use Rattle.swc_ast.specs.Marks.{mark_number}
 use Rattle.swc_ast.specs.Resolved.{specifier_bound}
-use Rattle.swc_visit.specs.Nodes.{children_forest}
-use Rattle.swc_visit.proofs.Caps.{forest_size}
+use Rattle.tree_visit.specs.Nodes.{children_forest}
+use Rattle.tree_visit.proofs.Caps.{forest_size}
 use Rattle.swc_resolved.specs.Exports.{is_bound}
 use Rattle.swc_resolved.proofs.names.Taken.specifiers_bound.Given as goal
 

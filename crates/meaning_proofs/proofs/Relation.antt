@@ -1,0 +1,97 @@
+-- When two runs do the same: values, cells, states and outcomes that are related, for functions whose trees were
+-- rewritten and for names that were dropped.
+use Rattle.std.proofs.Common.{◌≡◌, ℕ, ℤ, Bool, true, false, List, [], ◌∷◌, Option, Some, None}
+use Rattle.swc_ast.specs.Tree.{Name, Text as SourceText, Tree}
+use Rattle.swc_ast.specs.Value.{Env, Value, Undefined, Null, NaN, TypeError, ScriptThis, Truth, Num, Text, Items, Record, Function, Token, Values, ∅, ◌▹◌, Fields, nofield, field, Cell, State, Jump, Broken, Continued, Returned, Thrown, Outcome, Done, Jumps, Outside, Cut, Run, Context, Meaning}
+use Rattle.swc_ast.specs.Scope.{Declaration, Lexical, Function as DeclaredFunction}
+use Rattle.meaning_proofs.specs.Names.{Names, Guards}
+use Rattle.meaning_proofs.specs.Sameness.{counting}
+
+-- By what two runs are compared: which function trees of the first stand for which of the second, what is known of
+-- names, and which loads are ignored.
+pub record Pairing : Type 1 where
+  pub Keeps : Tree → Tree → Type 0
+  pub ignores : SourceText → Bool
+  pub names : Names
+  pub open names use {dropped, loose, slack, guarded, guard}
+
+-- two lists, item by item
+pub data Each {A : Type 0} (RA : A → A → Type 0) : List A → List A → Type 0 where
+  none : Each RA [] []
+  more : {a b : A} {xs ys : List A} → RA a b → Each RA xs ys → Each RA (a ∷ xs) (b ∷ ys)
+
+pub data Maybe {A : Type 0} (RA : A → A → Type 0) : Option A → Option A → Type 0 where
+  neither : Maybe RA None None
+  both : {a b : A} → RA a b → Maybe RA (Some a) (Some b)
+
+-- environments agree on each name that is kept
+pub record SameEnv (P : Pairing) (e f : Env) : Type 0 where
+  pub at : (x : Name) → P.dropped x ≡ false → e x ≡ f x
+
+mutual
+  pub data V (P : Pairing) : Value → Value → Type 0 where
+    undefined : V P Undefined Undefined
+    null : V P Null Null
+    nan : V P NaN NaN
+    type_error : V P TypeError TypeError
+    script_this : V P ScriptThis ScriptThis
+    truth : (b : Bool) → V P (Truth b) (Truth b)
+    num : (z : ℤ) → V P (Num z) (Num z)
+    text : (t : List ℕ) → V P (Text t) (Text t)
+    items : {vs ws : Values} → Vs P vs ws → V P (Items vs) (Items ws)
+    entries : {fs gs : Fields} → Fs P fs gs → V P (Record fs) (Record gs)
+    function : {f g : Tree} {e d : Env} {t u : Value} → P.Keeps f g → SameEnv P e d → V P t u → V P (Function f e t) (Function g d u)
+    token : (n : ℕ) (b : Bool) → V P (Token n b) (Token n b)
+
+  pub data Vs (P : Pairing) : Values → Values → Type 0 where
+    no_value : Vs P ∅ ∅
+    value : {v w : Value} {vs ws : Values} → V P v w → Vs P vs ws → Vs P (v ▹ vs) (w ▹ ws)
+
+  pub data Fs (P : Pairing) : Fields → Fields → Type 0 where
+    no_entry : Fs P nofield nofield
+    entry : (k : List ℕ) {v w : Value} {fs gs : Fields} → V P v w → Fs P fs gs → Fs P (field k v fs) (field k w gs)
+
+-- what a name's cells hold is related, but for a loose name
+pub data Held (P : Pairing) (x : Name) (v w : Value) : Type 0 where
+  same_held : V P v w → Held P x v w
+  any_held : P.loose x ≡ true → Held P x v w
+
+pub data SameCell (P : Pairing) (x : Name) (c d : Cell) : Type 0 where
+  alike : c.writable ≡ d.writable → Maybe (Held P x) c.held d.held → SameCell P x c d
+  unlike : P.loose x ≡ true → P.slack x ≡ true → SameCell P x c d
+
+pub record S (P : Pairing) (s t : State) : Type 0 where
+  pub events : counting P.ignores s.events ≡ counting P.ignores t.events
+  pub replies : s.replies ≡ t.replies
+  pub cells : (x : Name) → P.dropped x ≡ false → Each (SameCell P x) (s.store x) (t.store x)
+  pub guards : Guards P.names s
+
+pub record C (P : Pairing) (c d : Context) : Type 0 where
+  pub env : SameEnv P c.env d.env
+  pub this : V P c.this d.this
+  pub labels : c.labels ≡ d.labels
+
+pub data J (P : Pairing) : Jump → Jump → Type 0 where
+  broken : (l : Option (List ℕ)) → J P (Broken l) (Broken l)
+  continued : (l : Option (List ℕ)) → J P (Continued l) (Continued l)
+  returned : {v w : Value} → V P v w → J P (Returned v) (Returned w)
+  thrown : {v w : Value} → V P v w → J P (Thrown v) (Thrown w)
+
+-- What the first run does, the second does too, unless the first leaves the core or is cut.
+pub data Sim (P : Pairing) {A : Type 0} (RA : A → A → Type 0) : Outcome A → Outcome A → Type 0 where
+  done : {a b : A} {s t : State} → RA a b → S P s t → Sim P RA (Done a s) (Done b t)
+  jump : {j k : Jump} {s t : State} → J P j k → S P s t → Sim P RA (Jumps j s) (Jumps k t)
+  outside : (o : Outcome A) → Sim P RA Outside o
+  cut : (o : Outcome A) → Sim P RA Cut o
+
+abbrev pub Ran : (P : Pairing) {A : Type 0} → (A → A → Type 0) → Run A → Run A → Type 0
+Ran P RA m n = (s t : State) → S P s t → Sim P RA (m s) (n t)
+
+-- what two trees or parts of trees mean
+pub record M (P : Pairing) (m n : Meaning) : Type 0 where
+  pub at : (c d : Context) → C P c d → Ran P (V P) (m c) (n d)
+
+-- what two lists declare of a name
+pub data SameDeclaration (P : Pairing) : Declaration → Declaration → Type 0 where
+  lexical : (w : Bool) → SameDeclaration P (Lexical w) (Lexical w)
+  declared_function : {f g : Tree} → P.Keeps f g → SameDeclaration P (DeclaredFunction f) (DeclaredFunction g)

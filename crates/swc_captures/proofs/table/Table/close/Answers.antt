@@ -1,7 +1,0 @@
-use Rattle.std.proofs.Common.{◌++◌, option_to_list, ap, ◌∙◌}
-use Rattle.swc_captures.specs.Views.{captures}
-use Rattle.swc_captures.proofs.Tables.{one_back}
-use Rattle.swc_captures.proofs.table.Table.close.Goals as goal
-
-pub loop-last-preserved : goal.loop-last-preserved
-loop-last-preserved c = one_back c.loop-last.left.items c.pop.new.self.items c.in-Some.last (captures c.loop-last.self) (captures c.put_back.new.self) _ (c.pop.ensures.items ∙ ap (λ o. c.pop.new.self.items ++ option_to_list o) c.in-Some.is) c.in_ok-put_back.ensures c.loop-last.invariant

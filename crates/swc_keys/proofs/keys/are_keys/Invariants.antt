@@ -1,7 +1,0 @@
-use Rattle.std.proofs.Common.{drop}
-use Rattle.swc_keys.specs.Keys.{are_keys}
-use Rattle.swc_keys.proofs.Seen.{keys, Left}
-use Rattle.swc_keys.proofs.keys.are_keys.Given as goal
-
-abbrev pub invariant-loop-prop : goal.invariant-loop-prop
-invariant-loop-prop l = Left l.seen (drop l.prop-index l.props) (are_keys (keys l.props))

@@ -1,0 +1,168 @@
+-- How much room is left for deeper recursion, and which function may call which at the same room.
+use Rattle.std.proofs.Common.{◌+◌, ◌*◌}
+use Rattle.text_parser.proofs.cursor.Parser.+parser.Given as goal
+
+abbrev pub decreases-arguments : goal.decreases-arguments
+decreases-arguments l = 30 * l.room + 1
+
+abbrev pub decreases-array : goal.decreases-array
+decreases-array l = 30 * l.room + 18
+
+abbrev pub decreases-arrow : goal.decreases-arrow
+decreases-arrow l = 30 * l.room + 22
+
+abbrev pub decreases-arrow_body : goal.decreases-arrow_body
+decreases-arrow_body l = 30 * l.room + 15
+
+abbrev pub decreases-assignment : goal.decreases-assignment
+decreases-assignment l = 30 * l.room + 23
+
+abbrev pub decreases-assignment_behind : goal.decreases-assignment_behind
+decreases-assignment_behind l = 30 * l.room + 22
+
+abbrev pub decreases-attempt : goal.decreases-attempt
+decreases-attempt l = 30 * l.room + 18
+
+abbrev pub decreases-binary_behind : goal.decreases-binary_behind
+decreases-binary_behind l = 30 * l.room + 2
+
+abbrev pub decreases-block : goal.decreases-block
+decreases-block l = 30 * l.room + 13
+
+abbrev pub decreases-body : goal.decreases-body
+decreases-body l = 30 * l.room + 14
+
+abbrev pub decreases-branch : goal.decreases-branch
+decreases-branch l = 30 * l.room + 18
+
+abbrev pub decreases-case : goal.decreases-case
+decreases-case l = 30 * l.room + 16
+
+abbrev pub decreases-cases : goal.decreases-cases
+decreases-cases l = 30 * l.room + 17
+
+abbrev pub decreases-choice_behind : goal.decreases-choice_behind
+decreases-choice_behind l = 30 * l.room + 1
+
+abbrev pub decreases-construction : goal.decreases-construction
+decreases-construction l = 30 * l.room + 18
+
+abbrev pub decreases-declaration : goal.decreases-declaration
+decreases-declaration l = 30 * l.room + 13
+
+abbrev pub decreases-declarator : goal.decreases-declarator
+decreases-declarator l = 30 * l.room + 11
+
+abbrev pub decreases-declarators : goal.decreases-declarators
+decreases-declarators l = 30 * l.room + 12
+
+abbrev pub decreases-do_loop : goal.decreases-do_loop
+decreases-do_loop l = 30 * l.room + 18
+
+abbrev pub decreases-expression : goal.decreases-expression
+decreases-expression l = 30 * l.room + 24
+
+abbrev pub decreases-expression_behind : goal.decreases-expression_behind
+decreases-expression_behind l = 30 * l.room + 1
+
+abbrev pub decreases-expression_stmt : goal.decreases-expression_stmt
+decreases-expression_stmt l = 30 * l.room + 18
+
+abbrev pub decreases-first_part : goal.decreases-first_part
+decreases-first_part l = 30 * l.room + 17
+
+abbrev pub decreases-for_loop : goal.decreases-for_loop
+decreases-for_loop l = 30 * l.room + 18
+
+abbrev pub decreases-function : goal.decreases-function
+decreases-function l = 30 * l.room + 16
+
+abbrev pub decreases-function_decl : goal.decreases-function_decl
+decreases-function_decl l = 30 * l.room + 17
+
+abbrev pub decreases-function_expr : goal.decreases-function_expr
+decreases-function_expr l = 30 * l.room + 18
+
+abbrev pub decreases-handler : goal.decreases-handler
+decreases-handler l = 30 * l.room + 17
+
+abbrev pub decreases-head : goal.decreases-head
+decreases-head l = 30 * l.room + 1
+
+abbrev pub decreases-key : goal.decreases-key
+decreases-key l = 30 * l.room + 1
+
+abbrev pub decreases-labeled : goal.decreases-labeled
+decreases-labeled l = 30 * l.room + 18
+
+abbrev pub decreases-leave_function : goal.decreases-leave_function
+decreases-leave_function l = 30 * l.room + 18
+
+abbrev pub decreases-listed : goal.decreases-listed
+decreases-listed l = 30 * l.room + 24
+
+abbrev pub decreases-loop_body : goal.decreases-loop_body
+decreases-loop_body l = 30 * l.room + 1
+
+abbrev pub decreases-member_prop : goal.decreases-member_prop
+decreases-member_prop l = 30 * l.room + 1
+
+abbrev pub decreases-members_behind : goal.decreases-members_behind
+decreases-members_behind l = 30 * l.room + 19
+
+abbrev pub decreases-object : goal.decreases-object
+decreases-object l = 30 * l.room + 18
+
+abbrev pub decreases-operand : goal.decreases-operand
+decreases-operand l = 30 * l.room + 21
+
+abbrev pub decreases-operand_behind : goal.decreases-operand_behind
+decreases-operand_behind l = 30 * l.room + 20
+
+abbrev pub decreases-optional : goal.decreases-optional
+decreases-optional l = 30 * l.room + 1
+
+abbrev pub decreases-param : goal.decreases-param
+decreases-param l = 30 * l.room + 12
+
+abbrev pub decreases-params : goal.decreases-params
+decreases-params l = 30 * l.room + 13
+
+abbrev pub decreases-parenthesized : goal.decreases-parenthesized
+decreases-parenthesized l = 30 * l.room + 18
+
+abbrev pub decreases-primary : goal.decreases-primary
+decreases-primary l = 30 * l.room + 20
+
+abbrev pub decreases-property : goal.decreases-property
+decreases-property l = 30 * l.room + 17
+
+abbrev pub decreases-spread : goal.decreases-spread
+decreases-spread l = 30 * l.room + 1
+
+abbrev pub decreases-statement : goal.decreases-statement
+decreases-statement l = 30 * l.room + 23
+
+abbrev pub decreases-statements : goal.decreases-statements
+decreases-statements l = 30 * l.room + 1
+
+abbrev pub decreases-switch : goal.decreases-switch
+decreases-switch l = 30 * l.room + 18
+
+abbrev pub decreases-template : goal.decreases-template
+decreases-template l = 30 * l.room + 18
+
+abbrev pub decreases-throw : goal.decreases-throw
+decreases-throw l = 30 * l.room + 18
+
+abbrev pub decreases-unary : goal.decreases-unary
+decreases-unary l = 30 * l.room + 20
+
+abbrev pub decreases-while_loop : goal.decreases-while_loop
+decreases-while_loop l = 30 * l.room + 18
+
+abbrev pub decreases-item : goal.decreases-item
+decreases-item l = 30 * l.room + 1
+
+abbrev pub decreases-right_operand : goal.decreases-right_operand
+decreases-right_operand l = 30 * l.room + 1

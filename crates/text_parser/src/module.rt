@@ -1,0 +1,212 @@
+//! Imports and exports.
+use crate::cursor::Parser;
+use swc_ast::{
+    Decl, ExportDecl, ExportDefaultDecl, ExportDefaultExpr, ExportNamedSpecifier, Ident, IdentName,
+    ImportDecl, ImportDefaultSpecifier, ImportNamedSpecifier, ImportSpecifier,
+    ImportStarAsSpecifier, ModuleDecl, ModuleItem, NamedExport, VarDeclKind,
+};
+use text_lexer::{Construct, Fault, Kind};
+
+impl<'a> Parser<'a> {
+    pub(crate) fn module_item(&mut self, room: u32) -> Result<ModuleItem, Fault> {
+        let is_call = matches!(self.next_kind(), Kind::LeftParen | Kind::Dot);
+        match self.kind() {
+            Kind::Import if !is_call => Ok(ModuleItem::ModuleDecl(self.import_decl()?)),
+            Kind::Export => Ok(ModuleItem::ModuleDecl(self.export_item(room)?)),
+            _ => Ok(ModuleItem::Stmt(self.listed(room)?.node)),
+        }
+    }
+
+    fn import_decl(&mut self) -> Result<ModuleDecl, Fault> {
+        let start = self.start();
+        self.expect(Kind::Import)?;
+        let mut specifiers = Vec::new(self.alloc);
+        if !self.is_at(Kind::Text) {
+            self.import_clause(&mut specifiers)?;
+            if !self.take_name("from") {
+                return Err(self.refuse());
+            }
+            if !self.is_at(Kind::Text) {
+                return Err(self.refuse());
+            }
+        }
+        let src = self.text_literal()?;
+        if self.is_at(Kind::With) {
+            return Err(self.leave_out(Construct::Meta));
+        }
+        self.semicolon()?;
+        let span = self.span_from(start);
+        Ok(ModuleDecl::Import(ImportDecl {
+            span,
+            specifiers,
+            src,
+        }))
+    }
+
+    /// What an import binds, up to `from`.
+    fn import_clause(&mut self, specifiers: &mut Vec<ImportSpecifier>) -> Result<(), Fault> {
+        if !matches!(self.kind(), Kind::Star | Kind::LeftBrace) {
+            let start = self.start();
+            let local = self.imported_name()?;
+            let span = self.span_from(start);
+            let node = ImportDefaultSpecifier { span, local };
+            specifiers.push(ImportSpecifier::Default(node))?;
+            if !self.take(Kind::Comma) {
+                return Ok(());
+            }
+        }
+        let start = self.start();
+        if self.take(Kind::Star) {
+            if !self.take_name("as") {
+                return Err(self.refuse());
+            }
+            let local = self.imported_name()?;
+            let span = self.span_from(start);
+            let node = ImportStarAsSpecifier { span, local };
+            specifiers.push(ImportSpecifier::Namespace(node))?;
+            return Ok(());
+        }
+        self.expect(Kind::LeftBrace)?;
+        for _ in self.place..self.tokens.len() {
+            if self.is_at(Kind::RightBrace) {
+                break;
+            }
+            specifiers.push(self.import_specifier()?)?;
+            if !self.take(Kind::Comma) {
+                break;
+            }
+        }
+        self.expect(Kind::RightBrace)
+    }
+
+    /// The name that an import binds, which is passed.
+    fn imported_name(&mut self) -> Result<Ident, Fault> {
+        let token = self.token();
+        let mut local = self.bound()?;
+        local.ctxt = self.declare(VarDeclKind::Let, token)?;
+        Ok(local)
+    }
+
+    /// `a`, `b as a`
+    fn import_specifier(&mut self) -> Result<ImportSpecifier, Fault> {
+        let start = self.start();
+        self.refuse_text_name()?;
+        let mut imported: Option<IdentName> = None;
+        let next = self.next();
+        if self.is_name(next, "as") {
+            imported = Some(self.word()?);
+            self.bump();
+        }
+        let local = self.imported_name()?;
+        let span = self.span_from(start);
+        Ok(ImportSpecifier::Named(ImportNamedSpecifier {
+            span,
+            local,
+            imported,
+        }))
+    }
+
+    fn refuse_text_name(&self) -> Result<(), Fault> {
+        if self.is_at(Kind::Text) {
+            return Err(self.leave_out(Construct::TextName));
+        }
+        Ok(())
+    }
+
+    fn export_item(&mut self, room: u32) -> Result<ModuleDecl, Fault> {
+        let start = self.start();
+        if self.is_at_re_export() {
+            return Err(self.leave_out(Construct::ReExport));
+        }
+        self.expect(Kind::Export)?;
+        match self.kind() {
+            Kind::LeftBrace => self.named_export(start),
+            Kind::Default => self.default_export(room, start),
+            Kind::Var | Kind::Let | Kind::Const => {
+                let decl = self.declaration(room, true)?;
+                let span = self.span_from(start);
+                let decl = Decl::Var(decl.node);
+                Ok(ModuleDecl::ExportDecl(ExportDecl { span, decl }))
+            }
+            Kind::Function => {
+                let decl = self.function_decl(room, true)?;
+                let span = self.span_from(start);
+                let decl = Decl::Fn(decl.node);
+                Ok(ModuleDecl::ExportDecl(ExportDecl { span, decl }))
+            }
+            Kind::Class => Err(self.leave_out(Construct::Class)),
+            Kind::Name if self.is_at_async() => Err(self.leave_out(Construct::Async)),
+            _ => Err(self.refuse()),
+        }
+    }
+
+    /// Whether the export here takes its names from another module.
+    fn is_at_re_export(&self) -> bool {
+        let next = self.next();
+        match next.kind {
+            Kind::Star => true,
+            Kind::LeftBrace => {
+                let close = next.closed_by as usize;
+                close != 0 && self.is_name(self.token_at(close.saturating_add(1)), "from")
+            }
+            _ => false,
+        }
+    }
+
+    fn named_export(&mut self, start: u32) -> Result<ModuleDecl, Fault> {
+        self.expect(Kind::LeftBrace)?;
+        let mut specifiers = Vec::new(self.alloc);
+        for _ in self.place..self.tokens.len() {
+            if self.is_at(Kind::RightBrace) {
+                break;
+            }
+            specifiers.push(self.export_specifier()?)?;
+            if !self.take(Kind::Comma) {
+                break;
+            }
+        }
+        self.expect(Kind::RightBrace)?;
+        self.semicolon()?;
+        let span = self.span_from(start);
+        Ok(ModuleDecl::ExportNamed(NamedExport { span, specifiers }))
+    }
+
+    /// `a`, `b as c`
+    fn export_specifier(&mut self) -> Result<ExportNamedSpecifier, Fault> {
+        self.refuse_text_name()?;
+        let token = self.token();
+        let orig = self.ident()?;
+        let local = self.text_of(token);
+        self.exports.locals.push((local, token.start))?;
+        let mut exported: Option<IdentName> = None;
+        let mut name = token;
+        if self.take_name("as") {
+            self.refuse_text_name()?;
+            name = self.token();
+            exported = Some(self.word()?);
+        }
+        self.export(name)?;
+        Ok(ExportNamedSpecifier {
+            span: self.span_from(token.start),
+            orig,
+            exported,
+        })
+    }
+
+    /// What `default` exports, which comes next.
+    fn default_export(&mut self, room: u32, start: u32) -> Result<ModuleDecl, Fault> {
+        let name = self.token();
+        self.export(name)?;
+        self.bump();
+        if self.is_at(Kind::Function) {
+            let decl = self.default_function(room)?;
+            let span = self.span_from(start);
+            return Ok(ModuleDecl::ExportDefaultDecl(ExportDefaultDecl { span, decl }));
+        }
+        let found = self.assignment(room)?;
+        self.semicolon()?;
+        let expr = found.node;
+        let span = self.span_from(start);
+        Ok(ModuleDecl::ExportDefaultExpr(ExportDefaultExpr { span, expr }))
+    }
+}
