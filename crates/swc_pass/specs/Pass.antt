@@ -54,3 +54,16 @@ pub record Keeps (p : PassSpec) (t u : Tree) : Type 0 where
   pub core : (n : ℕ) → IsFor p.mark n → IsResolved n t → IsCore t → IsCore u
   -- it is equal to the input up to spans or lighter, where the pass says so
   pub lighter : p.lowers ≡ true → SameBare t u ⊎ (weight u < weight t)
+
+-- What a run of a pass gives, and what it tells of a change.
+pub record Folds (p : PassSpec) (changed : Bool) (t u : Tree) : Type 0 where
+  -- the pass may answer it
+  pub answer : p.answers t u
+  -- so it keeps what the laws say
+  pub kept : Keeps p t u
+  -- and it is told whether it is more than the input with other spans
+  pub told : TellsChange changed t u
+
+-- what a pass tells before its first run, and after a refusal: no change, no round that changed nothing, no rounds
+abbrev pub NothingTold : Bool → Bool → ℕ → Type 0
+NothingTold changed reached rounds = (changed ≡ false) × (reached ≡ false) × (rounds ≡ 0)

@@ -1,6 +1,7 @@
 -- What a pass that runs again and again may answer.
 use Rattle.std.specs.Prelude.{ℕ, ◌+◌, ◌≡◌, ◌<◌, ◌≤◌, Bool, true, false}
 use Rattle.swc_ast.specs.Tree.{Tree}
+use Rattle.swc_ast.specs.Weight.{weight}
 use Rattle.swc_pass.specs.Pass.{PassSpec, SameBare}
 use Rattle.swc_pass.specs.Chain.{GivesBack}
 
@@ -21,6 +22,12 @@ pub record Repeats (p : PassSpec) (most : ℕ) (t : Tree) (n : ℕ) (reached : B
   pub last : Tree
   pub rounded : Rounded p most t n reached last
   pub gives : GivesBack t last u
+
+-- What a run gives: these rounds, and where each change is lighter they come to an end, in so few of them.
+pub record FoldsAgain (p : PassSpec) (most : ℕ) (t : Tree) (n : ℕ) (reached : Bool) (u : Tree) : Type 0 where
+  pub repeats : Repeats p most t n reached u
+  pub comes_to_end : p.lowers ≡ true → weight t < most → reached ≡ true
+  pub few_rounds : p.lowers ≡ true → n ≤ weight t + 1
 
 abbrev pub repeated : PassSpec → ℕ → PassSpec
 repeated p most = record { mark = p.mark; loads = p.loads; lowers = p.lowers; answers = λ t u. (n : ℕ) × (reached : Bool) × Repeats p most t n reached u }

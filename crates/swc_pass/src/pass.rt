@@ -2,7 +2,7 @@
 ghost use Rattle.std.specs.Prelude.{◌≡◌, ℕ, Bool, true, false, List, IfOk, IfErr, OnErr};
 ghost use Rattle.swc_ast.specs.Modules.{module_tree, script_tree};
 ghost use Rattle.swc_ast.specs.declared.errors.PassError.TheVariants.{OutOfMemory};
-ghost use Rattle.swc_pass.specs.Pass.{PassSpec, IsLawful, Keeps, TellsChange};
+ghost use Rattle.swc_pass.specs.Pass.{PassSpec, IsLawful, TellsChange, Folds, NothingTold};
 
 use std::alloc::Global;
 use swc_ast::{Mark, Module, PassError, Script};
@@ -64,7 +64,7 @@ pub trait Pass: Repeated {
         ensures settings { settings self.new ≡ settings self.old }
         ensures answer { IfOk result (λ r. (spec (settings self.old)).answers (module_tree «module») (module_tree r)) }
         ensures changed { IfOk result (λ r. TellsChange (Self.is_changed self.new) (module_tree «module») (module_tree r)) }
-        ensures refused { OnErr result ((Self.is_changed self.new ≡ false) × (Self.is_reached self.new ≡ false) × (Self.rounds_run self.new ≡ 0)) }
+        ensures refused { OnErr result (NothingTold (Self.is_changed self.new) (Self.is_reached self.new) (Self.rounds_run self.new)) }
         ensures memory { IfErr result (λ e. e ≡ OutOfMemory) };
 
     /// Rewrites a script in place. Fails if memory runs out; the pass can run again after that.
@@ -72,17 +72,15 @@ pub trait Pass: Repeated {
         ensures settings { settings self.new ≡ settings self.old }
         ensures answer { IfOk result (λ r. (spec (settings self.old)).answers (script_tree script) (script_tree r)) }
         ensures changed { IfOk result (λ r. TellsChange (Self.is_changed self.new) (script_tree script) (script_tree r)) }
-        ensures refused { OnErr result ((Self.is_changed self.new ≡ false) × (Self.is_reached self.new ≡ false) × (Self.rounds_run self.new ≡ 0)) }
+        ensures refused { OnErr result (NothingTold (Self.is_changed self.new) (Self.is_reached self.new) (Self.rounds_run self.new)) }
         ensures memory { IfErr result (λ e. e ≡ OutOfMemory) };
 
     /// Runs the pass over a module and returns the result, for which its laws hold. Fails if memory runs out; the pass can run
     /// again after that.
     fn fold_module(&mut self, alloc: Global, module: Module) -> Result<Module, PassError>
         ensures settings { settings self.new ≡ settings self.old }
-        ensures answer { IfOk result (λ r. (spec (settings self.old)).answers (module_tree «module») (module_tree r)) }
-        ensures kept { IfOk result (λ r. Keeps (spec (settings self.old)) (module_tree «module») (module_tree r)) }
-        ensures changed { IfOk result (λ r. TellsChange (Self.is_changed self.new) (module_tree «module») (module_tree r)) }
-        ensures refused { OnErr result ((Self.is_changed self.new ≡ false) × (Self.is_reached self.new ≡ false) × (Self.rounds_run self.new ≡ 0)) }
+        ensures folded { IfOk result (λ r. Folds (spec (settings self.old)) (Self.is_changed self.new) (module_tree «module») (module_tree r)) }
+        ensures refused { OnErr result (NothingTold (Self.is_changed self.new) (Self.is_reached self.new) (Self.rounds_run self.new)) }
         ensures memory { IfErr result (λ e. e ≡ OutOfMemory) }
     {
         self.rewrite(alloc, module)
@@ -92,10 +90,8 @@ pub trait Pass: Repeated {
     /// again after that.
     fn fold_script(&mut self, alloc: Global, script: Script) -> Result<Script, PassError>
         ensures settings { settings self.new ≡ settings self.old }
-        ensures answer { IfOk result (λ r. (spec (settings self.old)).answers (script_tree script) (script_tree r)) }
-        ensures kept { IfOk result (λ r. Keeps (spec (settings self.old)) (script_tree script) (script_tree r)) }
-        ensures changed { IfOk result (λ r. TellsChange (Self.is_changed self.new) (script_tree script) (script_tree r)) }
-        ensures refused { OnErr result ((Self.is_changed self.new ≡ false) × (Self.is_reached self.new ≡ false) × (Self.rounds_run self.new ≡ 0)) }
+        ensures folded { IfOk result (λ r. Folds (spec (settings self.old)) (Self.is_changed self.new) (script_tree script) (script_tree r)) }
+        ensures refused { OnErr result (NothingTold (Self.is_changed self.new) (Self.is_reached self.new) (Self.rounds_run self.new)) }
         ensures memory { IfErr result (λ e. e ≡ OutOfMemory) }
     {
         self.rewrite_script(alloc, script)
@@ -105,10 +101,8 @@ pub trait Pass: Repeated {
     /// run again after that.
     fn run(&mut self, alloc: Global, module: &Module) -> Result<Module, PassError>
         ensures settings { settings self.new ≡ settings self.old }
-        ensures answer { IfOk result (λ r. (spec (settings self.old)).answers (module_tree «module».now) (module_tree r)) }
-        ensures kept { IfOk result (λ r. Keeps (spec (settings self.old)) (module_tree «module».now) (module_tree r)) }
-        ensures changed { IfOk result (λ r. TellsChange (Self.is_changed self.new) (module_tree «module».now) (module_tree r)) }
-        ensures refused { OnErr result ((Self.is_changed self.new ≡ false) × (Self.is_reached self.new ≡ false) × (Self.rounds_run self.new ≡ 0)) }
+        ensures folded { IfOk result (λ r. Folds (spec (settings self.old)) (Self.is_changed self.new) (module_tree «module».now) (module_tree r)) }
+        ensures refused { OnErr result (NothingTold (Self.is_changed self.new) (Self.is_reached self.new) (Self.rounds_run self.new)) }
         ensures memory { IfErr result (λ e. e ≡ OutOfMemory) }
     {
         self.reset();
@@ -120,10 +114,8 @@ pub trait Pass: Repeated {
     /// run again after that.
     fn run_script(&mut self, alloc: Global, script: &Script) -> Result<Script, PassError>
         ensures settings { settings self.new ≡ settings self.old }
-        ensures answer { IfOk result (λ r. (spec (settings self.old)).answers (script_tree script.now) (script_tree r)) }
-        ensures kept { IfOk result (λ r. Keeps (spec (settings self.old)) (script_tree script.now) (script_tree r)) }
-        ensures changed { IfOk result (λ r. TellsChange (Self.is_changed self.new) (script_tree script.now) (script_tree r)) }
-        ensures refused { OnErr result ((Self.is_changed self.new ≡ false) × (Self.is_reached self.new ≡ false) × (Self.rounds_run self.new ≡ 0)) }
+        ensures folded { IfOk result (λ r. Folds (spec (settings self.old)) (Self.is_changed self.new) (script_tree script.now) (script_tree r)) }
+        ensures refused { OnErr result (NothingTold (Self.is_changed self.new) (Self.is_reached self.new) (Self.rounds_run self.new)) }
         ensures memory { IfErr result (λ e. e ≡ OutOfMemory) }
     {
         self.reset();

@@ -4,8 +4,8 @@ ghost use Rattle.swc_ast.specs.Modules.{module_tree, script_tree};
 ghost use Rattle.swc_ast.specs.Weight.{weight};
 ghost use Rattle.swc_ast.specs.declared.errors.PassError.TheVariants.{OutOfMemory};
 ghost use Rattle.std.proofs.Common.{ap₂};
-ghost use Rattle.swc_pass.specs.Pass.{Keeps, TellsChange};
-ghost use Rattle.swc_pass.specs.Repeat.{Rounded, Repeats, repeated};
+ghost use Rattle.swc_pass.specs.Pass.{TellsChange, Folds, NothingTold};
+ghost use Rattle.swc_pass.specs.Repeat.{Rounded, Repeats, FoldsAgain, repeated};
 ghost use Rattle.swc_pass.specs.RepeatLaws.{repeated_lawful};
 
 use crate::pass::{Pass, Repeated};
@@ -144,10 +144,8 @@ impl<P: Pass> Repeat<P> {
         ensures settings { ⟦<Repeat<P> as Pass>⟧.settings self.new ≡ ⟦<Repeat<P> as Pass>⟧.settings self.old }
         ensures answer { IfOk result (λ r. (⟦<Repeat<P> as Pass>⟧.spec (⟦<Repeat<P> as Pass>⟧.settings self.old)).answers (W.tree whole) (W.tree r)) }
         ensures changed { IfOk result (λ r. TellsChange (⟦<Repeat<P> as Repeated>⟧.is_changed self.new) (W.tree whole) (W.tree r)) }
-        ensures rounds { IfOk result (λ r. Repeats (P.spec (⟦<Repeat<P> as Pass>⟧.settings self.old).0) (⟦<Repeat<P> as Pass>⟧.settings self.old).1 (W.tree whole) (⟦<Repeat<P> as Repeated>⟧.rounds_run self.new) (⟦<Repeat<P> as Repeated>⟧.is_reached self.new) (W.tree r)) }
-        ensures comes_to_end { IfOk result (λ r. (P.spec (⟦<Repeat<P> as Pass>⟧.settings self.old).0).lowers ≡ true → weight (W.tree whole) < (⟦<Repeat<P> as Pass>⟧.settings self.old).1 → ⟦<Repeat<P> as Repeated>⟧.is_reached self.new ≡ true) }
-        ensures few_rounds { IfOk result (λ r. (P.spec (⟦<Repeat<P> as Pass>⟧.settings self.old).0).lowers ≡ true → ⟦<Repeat<P> as Repeated>⟧.rounds_run self.new ≤ weight (W.tree whole) + 1) }
-        ensures refused { OnErr result ((⟦<Repeat<P> as Repeated>⟧.is_changed self.new ≡ false) × (⟦<Repeat<P> as Repeated>⟧.is_reached self.new ≡ false) × (⟦<Repeat<P> as Repeated>⟧.rounds_run self.new ≡ 0)) }
+        ensures rounds { IfOk result (λ r. FoldsAgain (P.spec (⟦<Repeat<P> as Pass>⟧.settings self.old).0) (⟦<Repeat<P> as Pass>⟧.settings self.old).1 (W.tree whole) (⟦<Repeat<P> as Repeated>⟧.rounds_run self.new) (⟦<Repeat<P> as Repeated>⟧.is_reached self.new) (W.tree r)) }
+        ensures refused { OnErr result (NothingTold (⟦<Repeat<P> as Repeated>⟧.is_changed self.new) (⟦<Repeat<P> as Repeated>⟧.is_reached self.new) (⟦<Repeat<P> as Repeated>⟧.rounds_run self.new)) }
         ensures memory { IfErr result (λ e. e ≡ OutOfMemory) }
     {
         self.rounds = 0;
@@ -200,10 +198,8 @@ impl<P: Pass> Pass for Repeat<P> {
         ensures settings { ⟦<Repeat<P> as Pass>⟧.settings self.new ≡ ⟦<Repeat<P> as Pass>⟧.settings self.old }
         ensures answer { IfOk result (λ r. (⟦<Repeat<P> as Pass>⟧.spec (⟦<Repeat<P> as Pass>⟧.settings self.old)).answers (module_tree «module») (module_tree r)) }
         ensures changed { IfOk result (λ r. TellsChange (⟦<Repeat<P> as Repeated>⟧.is_changed self.new) (module_tree «module») (module_tree r)) }
-        ensures rounds { IfOk result (λ r. Repeats (P.spec (⟦<Repeat<P> as Pass>⟧.settings self.old).0) (⟦<Repeat<P> as Pass>⟧.settings self.old).1 (module_tree «module») (⟦<Repeat<P> as Repeated>⟧.rounds_run self.new) (⟦<Repeat<P> as Repeated>⟧.is_reached self.new) (module_tree r)) }
-        ensures comes_to_end { IfOk result (λ r. (P.spec (⟦<Repeat<P> as Pass>⟧.settings self.old).0).lowers ≡ true → weight (module_tree «module») < (⟦<Repeat<P> as Pass>⟧.settings self.old).1 → ⟦<Repeat<P> as Repeated>⟧.is_reached self.new ≡ true) }
-        ensures few_rounds { IfOk result (λ r. (P.spec (⟦<Repeat<P> as Pass>⟧.settings self.old).0).lowers ≡ true → ⟦<Repeat<P> as Repeated>⟧.rounds_run self.new ≤ weight (module_tree «module») + 1) }
-        ensures refused { OnErr result ((⟦<Repeat<P> as Repeated>⟧.is_changed self.new ≡ false) × (⟦<Repeat<P> as Repeated>⟧.is_reached self.new ≡ false) × (⟦<Repeat<P> as Repeated>⟧.rounds_run self.new ≡ 0)) }
+        ensures rounds { IfOk result (λ r. FoldsAgain (P.spec (⟦<Repeat<P> as Pass>⟧.settings self.old).0) (⟦<Repeat<P> as Pass>⟧.settings self.old).1 (module_tree «module») (⟦<Repeat<P> as Repeated>⟧.rounds_run self.new) (⟦<Repeat<P> as Repeated>⟧.is_reached self.new) (module_tree r)) }
+        ensures refused { OnErr result (NothingTold (⟦<Repeat<P> as Repeated>⟧.is_changed self.new) (⟦<Repeat<P> as Repeated>⟧.is_reached self.new) (⟦<Repeat<P> as Repeated>⟧.rounds_run self.new)) }
         ensures memory { IfErr result (λ e. e ≡ OutOfMemory) }
     {
         self.run_whole(alloc, module)
@@ -213,10 +209,8 @@ impl<P: Pass> Pass for Repeat<P> {
         ensures settings { ⟦<Repeat<P> as Pass>⟧.settings self.new ≡ ⟦<Repeat<P> as Pass>⟧.settings self.old }
         ensures answer { IfOk result (λ r. (⟦<Repeat<P> as Pass>⟧.spec (⟦<Repeat<P> as Pass>⟧.settings self.old)).answers (script_tree script) (script_tree r)) }
         ensures changed { IfOk result (λ r. TellsChange (⟦<Repeat<P> as Repeated>⟧.is_changed self.new) (script_tree script) (script_tree r)) }
-        ensures rounds { IfOk result (λ r. Repeats (P.spec (⟦<Repeat<P> as Pass>⟧.settings self.old).0) (⟦<Repeat<P> as Pass>⟧.settings self.old).1 (script_tree script) (⟦<Repeat<P> as Repeated>⟧.rounds_run self.new) (⟦<Repeat<P> as Repeated>⟧.is_reached self.new) (script_tree r)) }
-        ensures comes_to_end { IfOk result (λ r. (P.spec (⟦<Repeat<P> as Pass>⟧.settings self.old).0).lowers ≡ true → weight (script_tree script) < (⟦<Repeat<P> as Pass>⟧.settings self.old).1 → ⟦<Repeat<P> as Repeated>⟧.is_reached self.new ≡ true) }
-        ensures few_rounds { IfOk result (λ r. (P.spec (⟦<Repeat<P> as Pass>⟧.settings self.old).0).lowers ≡ true → ⟦<Repeat<P> as Repeated>⟧.rounds_run self.new ≤ weight (script_tree script) + 1) }
-        ensures refused { OnErr result ((⟦<Repeat<P> as Repeated>⟧.is_changed self.new ≡ false) × (⟦<Repeat<P> as Repeated>⟧.is_reached self.new ≡ false) × (⟦<Repeat<P> as Repeated>⟧.rounds_run self.new ≡ 0)) }
+        ensures rounds { IfOk result (λ r. FoldsAgain (P.spec (⟦<Repeat<P> as Pass>⟧.settings self.old).0) (⟦<Repeat<P> as Pass>⟧.settings self.old).1 (script_tree script) (⟦<Repeat<P> as Repeated>⟧.rounds_run self.new) (⟦<Repeat<P> as Repeated>⟧.is_reached self.new) (script_tree r)) }
+        ensures refused { OnErr result (NothingTold (⟦<Repeat<P> as Repeated>⟧.is_changed self.new) (⟦<Repeat<P> as Repeated>⟧.is_reached self.new) (⟦<Repeat<P> as Repeated>⟧.rounds_run self.new)) }
         ensures memory { IfErr result (λ e. e ≡ OutOfMemory) }
     {
         self.run_whole(alloc, script)
@@ -224,13 +218,9 @@ impl<P: Pass> Pass for Repeat<P> {
 
     fn run(&mut self, alloc: Global, module: &Module) -> Result<Module, PassError>
         ensures settings { ⟦<Repeat<P> as Pass>⟧.settings self.new ≡ ⟦<Repeat<P> as Pass>⟧.settings self.old }
-        ensures answer { IfOk result (λ r. (⟦<Repeat<P> as Pass>⟧.spec (⟦<Repeat<P> as Pass>⟧.settings self.old)).answers (module_tree «module».now) (module_tree r)) }
-        ensures kept { IfOk result (λ r. Keeps (⟦<Repeat<P> as Pass>⟧.spec (⟦<Repeat<P> as Pass>⟧.settings self.old)) (module_tree «module».now) (module_tree r)) }
-        ensures changed { IfOk result (λ r. TellsChange (⟦<Repeat<P> as Repeated>⟧.is_changed self.new) (module_tree «module».now) (module_tree r)) }
-        ensures rounds { IfOk result (λ r. Repeats (P.spec (⟦<Repeat<P> as Pass>⟧.settings self.old).0) (⟦<Repeat<P> as Pass>⟧.settings self.old).1 (module_tree «module».now) (⟦<Repeat<P> as Repeated>⟧.rounds_run self.new) (⟦<Repeat<P> as Repeated>⟧.is_reached self.new) (module_tree r)) }
-        ensures comes_to_end { IfOk result (λ r. (P.spec (⟦<Repeat<P> as Pass>⟧.settings self.old).0).lowers ≡ true → weight (module_tree «module».now) < (⟦<Repeat<P> as Pass>⟧.settings self.old).1 → ⟦<Repeat<P> as Repeated>⟧.is_reached self.new ≡ true) }
-        ensures few_rounds { IfOk result (λ r. (P.spec (⟦<Repeat<P> as Pass>⟧.settings self.old).0).lowers ≡ true → ⟦<Repeat<P> as Repeated>⟧.rounds_run self.new ≤ weight (module_tree «module».now) + 1) }
-        ensures refused { OnErr result ((⟦<Repeat<P> as Repeated>⟧.is_changed self.new ≡ false) × (⟦<Repeat<P> as Repeated>⟧.is_reached self.new ≡ false) × (⟦<Repeat<P> as Repeated>⟧.rounds_run self.new ≡ 0)) }
+        ensures folded { IfOk result (λ r. Folds (⟦<Repeat<P> as Pass>⟧.spec (⟦<Repeat<P> as Pass>⟧.settings self.old)) (⟦<Repeat<P> as Repeated>⟧.is_changed self.new) (module_tree «module».now) (module_tree r)) }
+        ensures rounds { IfOk result (λ r. FoldsAgain (P.spec (⟦<Repeat<P> as Pass>⟧.settings self.old).0) (⟦<Repeat<P> as Pass>⟧.settings self.old).1 (module_tree «module».now) (⟦<Repeat<P> as Repeated>⟧.rounds_run self.new) (⟦<Repeat<P> as Repeated>⟧.is_reached self.new) (module_tree r)) }
+        ensures refused { OnErr result (NothingTold (⟦<Repeat<P> as Repeated>⟧.is_changed self.new) (⟦<Repeat<P> as Repeated>⟧.is_reached self.new) (⟦<Repeat<P> as Repeated>⟧.rounds_run self.new)) }
         ensures memory { IfErr result (λ e. e ≡ OutOfMemory) }
     {
         self.rounds = 0;
@@ -242,13 +232,9 @@ impl<P: Pass> Pass for Repeat<P> {
 
     fn run_script(&mut self, alloc: Global, script: &Script) -> Result<Script, PassError>
         ensures settings { ⟦<Repeat<P> as Pass>⟧.settings self.new ≡ ⟦<Repeat<P> as Pass>⟧.settings self.old }
-        ensures answer { IfOk result (λ r. (⟦<Repeat<P> as Pass>⟧.spec (⟦<Repeat<P> as Pass>⟧.settings self.old)).answers (script_tree script.now) (script_tree r)) }
-        ensures kept { IfOk result (λ r. Keeps (⟦<Repeat<P> as Pass>⟧.spec (⟦<Repeat<P> as Pass>⟧.settings self.old)) (script_tree script.now) (script_tree r)) }
-        ensures changed { IfOk result (λ r. TellsChange (⟦<Repeat<P> as Repeated>⟧.is_changed self.new) (script_tree script.now) (script_tree r)) }
-        ensures rounds { IfOk result (λ r. Repeats (P.spec (⟦<Repeat<P> as Pass>⟧.settings self.old).0) (⟦<Repeat<P> as Pass>⟧.settings self.old).1 (script_tree script.now) (⟦<Repeat<P> as Repeated>⟧.rounds_run self.new) (⟦<Repeat<P> as Repeated>⟧.is_reached self.new) (script_tree r)) }
-        ensures comes_to_end { IfOk result (λ r. (P.spec (⟦<Repeat<P> as Pass>⟧.settings self.old).0).lowers ≡ true → weight (script_tree script.now) < (⟦<Repeat<P> as Pass>⟧.settings self.old).1 → ⟦<Repeat<P> as Repeated>⟧.is_reached self.new ≡ true) }
-        ensures few_rounds { IfOk result (λ r. (P.spec (⟦<Repeat<P> as Pass>⟧.settings self.old).0).lowers ≡ true → ⟦<Repeat<P> as Repeated>⟧.rounds_run self.new ≤ weight (script_tree script.now) + 1) }
-        ensures refused { OnErr result ((⟦<Repeat<P> as Repeated>⟧.is_changed self.new ≡ false) × (⟦<Repeat<P> as Repeated>⟧.is_reached self.new ≡ false) × (⟦<Repeat<P> as Repeated>⟧.rounds_run self.new ≡ 0)) }
+        ensures folded { IfOk result (λ r. Folds (⟦<Repeat<P> as Pass>⟧.spec (⟦<Repeat<P> as Pass>⟧.settings self.old)) (⟦<Repeat<P> as Repeated>⟧.is_changed self.new) (script_tree script.now) (script_tree r)) }
+        ensures rounds { IfOk result (λ r. FoldsAgain (P.spec (⟦<Repeat<P> as Pass>⟧.settings self.old).0) (⟦<Repeat<P> as Pass>⟧.settings self.old).1 (script_tree script.now) (⟦<Repeat<P> as Repeated>⟧.rounds_run self.new) (⟦<Repeat<P> as Repeated>⟧.is_reached self.new) (script_tree r)) }
+        ensures refused { OnErr result (NothingTold (⟦<Repeat<P> as Repeated>⟧.is_changed self.new) (⟦<Repeat<P> as Repeated>⟧.is_reached self.new) (⟦<Repeat<P> as Repeated>⟧.rounds_run self.new)) }
         ensures memory { IfErr result (λ e. e ≡ OutOfMemory) }
     {
         self.rounds = 0;

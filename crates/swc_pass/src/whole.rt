@@ -4,7 +4,7 @@ ghost use Rattle.std.specs.Prelude.{◌≡◌, ◌↔◌, false, IfOk, IfErr, Is
 ghost use Rattle.swc_ast.specs.Modules.{module_tree, script_tree};
 ghost use Rattle.swc_ast.specs.Tree.{Tree};
 ghost use Rattle.swc_ast.specs.declared.errors.PassError.TheVariants.{OutOfMemory};
-ghost use Rattle.swc_pass.specs.Pass.{SameBare, TellsChange};
+ghost use Rattle.swc_pass.specs.Pass.{SameBare, TellsChange, NothingTold};
 
 use crate::pass::Pass;
 use std::alloc::{AllocError, Global};
@@ -27,7 +27,7 @@ pub trait Whole: Drop {
         ensures settings { P.settings pass.new ≡ P.settings pass.old }
         ensures answer { IfOk result (λ r. (P.spec (P.settings pass.old)).answers (tree self) (tree r)) }
         ensures changed { IfOk result (λ r. TellsChange (P.is_changed pass.new) (tree self) (tree r)) }
-        ensures refused { OnErr result ((P.is_changed pass.new ≡ false) × (P.is_reached pass.new ≡ false) × (P.rounds_run pass.new ≡ 0)) }
+        ensures refused { OnErr result (NothingTold (P.is_changed pass.new) (P.is_reached pass.new) (P.rounds_run pass.new)) }
         ensures memory { IfErr result (λ e. e ≡ OutOfMemory) };
 }
 

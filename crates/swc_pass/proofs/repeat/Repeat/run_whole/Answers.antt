@@ -1,8 +1,12 @@
 use Rattle.swc_pass.specs.RepeatLaws.{comes_to_end, few_rounds}
 use Rattle.swc_pass.proofs.repeat.Repeat.run_whole.Goals as goal
 
-pub returns-clause-comes_to_end : goal.returns-clause-comes_to_end
-returns-clause-comes_to_end g c = λ l k. comes_to_end (g.met.P.Pass.lawful c.args.self.now.pass) _ _ _ _ _ l k c.in_ok-run.ensures.rounds.rounded
-
-pub returns-clause-few_rounds : goal.returns-clause-few_rounds
-returns-clause-few_rounds g c = λ l. few_rounds (g.met.P.Pass.lawful c.args.self.now.pass) _ _ _ _ l c.in_ok-run.ensures.rounds.rounded.rounds
+pub returns-clause-rounds : goal.returns-clause-rounds
+returns-clause-rounds g c =
+    let rounds = c.in_ok-run.ensures.rounds in
+    let lawful = g.met.P.Pass.lawful c.args.self.now.pass in
+    record {
+      repeats = rounds;
+      comes_to_end = λ l k. comes_to_end lawful _ _ _ _ _ l k rounds.rounded;
+      few_rounds = λ l. few_rounds lawful _ _ _ _ l rounds.rounded.rounds;
+    }

@@ -1,7 +1,7 @@
 use Rattle.swc_ast.specs.Modules.{script_tree}
 use Rattle.swc_pass.specs.RepeatLaws.{repeated_lawful}
-use Rattle.swc_pass.proofs.Keeping.{clone_keeps}
+use Rattle.swc_pass.proofs.Keeping.{clone_folded}
 use Rattle.swc_pass.proofs.repeat.RepeatPass.run_script.Goals as goal
 
-pub returns-clause-kept : goal.returns-clause-kept
-returns-clause-kept g c = clone_keeps script_tree c.rewrite_script.result (repeated_lawful (g.met.P.Pass.lawful c.args.self.now.pass) _) c.in_ok-copy.ensures.cases c.rewrite_script.ensures.answer
+pub returns-clause-folded : goal.returns-clause-folded
+returns-clause-folded g c = clone_folded script_tree c.rewrite_script.result (repeated_lawful (g.met.P.Pass.lawful c.args.self.now.pass) _) c.in_ok-copy.ensures.cases c.rewrite_script.ensures.answer c.rewrite_script.ensures.changed
