@@ -5,16 +5,17 @@ ghost use Rattle.swc_ast.specs.Scope.{joined};
 ghost use Rattle.swc_ast.specs.Tree.{ε, ◌⊳◌};
 ghost use Rattle.swc_ast.specs.Views.{expr_tree};
 ghost use Rattle.swc_utils.specs.Globals.{unresolved};
-ghost use Rattle.swc_utils.specs.Pure.{has_spread as kinds_have_spread, is_pure_callee};
+ghost use Rattle.swc_utils.specs.Pure.{is_pure_callee};
 ghost use Rattle.branch_rules.specs.Ignored.{is_function_expression};
 ghost use Rattle.branch_expressions.specs.Left.{AddsItems, AddsPlain, Rested};
 
 use crate::ignored::{Words, rest_of};
 use crate::parts::{add_all, add_items};
-use crate::rest::{Rest, as_one, changed, moved, take};
+use crate::rest::{Rest, as_one, changed, moved};
 use std::alloc::{AllocError, Global};
 use swc_ast::{ArrayLit, CallExpr, Expr, ExprOrSpread, NewExpr, SeqExpr, Span, Tpl};
-use swc_utils::{ExprCtx, ExprExt};
+use swc_utils::{ExprCtx, ExprExt, has_spread};
+use tree_nodes::take;
 
 #[cycle(ignore)]
 #[tactic(auto, using(crate::proofs::Answered::sequence_rested, crate::proofs::Answered::sequence_same))]
@@ -90,22 +91,6 @@ pub(crate) fn rest_of_new(alloc: Global, ctx: &ExprCtx, n: &mut NewExpr) -> Resu
     let mut out = Vec::new(alloc);
     add_all(alloc, ctx, Words::Go, &mut n.args, &mut out)?;
     Ok(changed(as_one(n.span, out)))
-}
-
-/// Whether an item is spread.
-fn has_spread(items: &[Option<ExprOrSpread>]) -> bool
-    ensures { result ≡ kinds_have_spread (map item_kind items.now) }
-{
-    let mut left = items;
-    while let [item, rest @ ..] = left {
-        if let Some(item) = item {
-            if let Some(_) = item.spread {
-                return true;
-            }
-        }
-        left = rest;
-    }
-    false
 }
 
 #[cycle(ignore)]

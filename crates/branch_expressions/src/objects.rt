@@ -3,7 +3,7 @@ ghost use Rattle.std.specs.Prelude.{◌≡◌, false, true, IfOk, IsTrue};
 ghost use Rattle.swc_ast.specs.Expressions.{key_tree, object_tree, shorthand_tree};
 ghost use Rattle.swc_ast.specs.Parts.{list_trees};
 ghost use Rattle.swc_ast.specs.Views.{expr_tree, prop_or_spread_tree};
-ghost use Rattle.swc_utils.specs.Effects.{has_record_spread, is_record_spread as tree_is_record_spread};
+ghost use Rattle.swc_utils.specs.Effects.{has_record_spread};
 ghost use Rattle.swc_utils.specs.Globals.{unresolved};
 ghost use Rattle.swc_utils.specs.Literals.{is_literal as tree_is_literal};
 ghost use Rattle.swc_utils.specs.Pure.{pure};
@@ -17,36 +17,7 @@ use crate::rest::{Rest, as_one, changed};
 use std::alloc::{AllocError, Global};
 use std::mem;
 use swc_ast::{Expr, Ident, KeyValueProp, ObjectLit, Prop, PropName, PropOrSpread};
-use swc_utils::{ExprCtx, ExprExt, is_literal};
-
-/// Whether a property is a spread.
-#[tactic(auto, using(swc_ast::proofs::Equations::forms))]
-fn is_spread(prop: &PropOrSpread) -> bool
-    ensures { result ≡ tree_is_record_spread (prop_or_spread_tree prop.now) }
-{
-    match prop {
-        PropOrSpread::Spread(_) => true,
-        PropOrSpread::Prop(prop) => match prop {
-            Prop::Shorthand(_) => false,
-            Prop::KeyValue(_) => false,
-            Prop::Method(_) => false,
-        },
-    }
-}
-
-/// Whether a property of an object is a spread.
-fn has_spread(props: &[PropOrSpread]) -> bool
-    ensures { result ≡ has_record_spread (list_trees prop_or_spread_tree props.now) }
-{
-    let mut left = props;
-    while let [prop, rest @ ..] = left {
-        if is_spread(prop) {
-            return true;
-        }
-        left = rest;
-    }
-    false
-}
+use swc_utils::{ExprCtx, ExprExt, has_spread_prop, is_literal};
 
 #[cycle(ignore)]
 #[tactic(auto, using(crate::proofs::Answered::object_rested))]
@@ -57,7 +28,7 @@ pub(crate) fn rest_of_object(
 ) -> Result<Rest, AllocError>
     ensures { IfOk result (λ r. Rested (unresolved ctx.now) (object_tree prop_or_spread_tree n.old) (object_tree prop_or_spread_tree n.new) r) }
 {
-    if has_spread(&n.props) {
+    if has_spread_prop(&n.props) {
         return rest_of_spread(alloc, ctx, n);
     }
     let mut out = Vec::new(alloc);

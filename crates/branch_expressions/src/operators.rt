@@ -12,11 +12,12 @@ ghost use Rattle.branch_expressions.specs.Choices.{Decides, are_none, choice_tre
 
 use crate::ignored::{Words, is_idle, left_of, rest_of};
 use crate::parts::add;
-use crate::rest::{Rest, as_one, binary_expr, changed, cond_expr, moved, take};
+use crate::rest::{Rest, as_one, changed, cond_expr, moved};
 use crate::rules::is_itself;
 use std::alloc::{AllocError, Global};
 use swc_ast::{AssignExpr, BinExpr, BinaryOp, CondExpr, Expr, Span, UnaryExpr, UnaryOp};
 use swc_utils::{ExprCtx, ExprExt, Value, ValueType};
+use tree_nodes::{binary_expr, take};
 
 /// Whether an expression is a call of a function expression.
 fn calls_function(e: &Expr) -> bool {

@@ -1,14 +1,14 @@
 //! What is left of an expression, and what it is made of.
 ghost use Rattle.std.specs.Prelude.{◌≡◌, ◌∷◌, [], IfOk, ℕ};
 ghost use Rattle.swc_ast.specs.Parts.{list_trees};
-ghost use Rattle.swc_ast.specs.Tree.{Binary, Cond, node, ε, ◌⊳◌, Tree};
+ghost use Rattle.swc_ast.specs.Tree.{Cond, node, ε, ◌⊳◌, Tree};
 ghost use Rattle.swc_ast.specs.Views.{expr_tree};
 ghost use Rattle.branch_rules.specs.Ignored.{Ignores, as_one as tree_as_one};
 ghost use Rattle.branch_expressions.specs.Left.{Rested, is_change as tree_is_change, other, tree_of};
 
 use std::alloc::{AllocError, Global};
-use std::mem;
-use swc_ast::{BinExpr, BinaryOp, CondExpr, Expr, Invalid, SeqExpr, Span};
+use swc_ast::{CondExpr, Expr, SeqExpr, Span};
+use tree_nodes::take;
 
 /// What is left of an expression: the expression itself, which is as it was, nothing, or another expression.
 #[derive(Drop)]
@@ -29,14 +29,6 @@ impl Rest {
             Rest::Other(_) => true,
         }
     }
-}
-
-/// Moves an expression out of its place.
-pub(crate) fn take(place: &mut Expr) -> Expr
-    ensures { result ≡ place.old }
-{
-    let span = Span { lo: 0, hi: 0 };
-    mem::replace(place, Expr::Invalid(Invalid { span }))
 }
 
 /// What is left of an expression, moved out of its place if it stands there still.
@@ -69,26 +61,6 @@ pub(crate) fn as_one(span: Span, exprs: Vec<Expr>) -> Option<Expr>
         return Some(Expr::Seq(SeqExpr { span, exprs }));
     }
     exprs.pop()
-}
-
-/// An operator between two operands.
-pub(crate) fn binary_expr(
-    alloc: Global,
-    span: Span,
-    op: BinaryOp,
-    left: Expr,
-    right: Expr,
-) -> Result<Expr, AllocError>
-    ensures { IfOk result (λ r. expr_tree r ≡ node (Binary op) (span ∷ []) (expr_tree left ⊳ expr_tree right ⊳ ε)) }
-{
-    let left = Box::new(alloc, left)?;
-    let right = Box::new(alloc, right)?;
-    Ok(Expr::Bin(BinExpr {
-        span,
-        op,
-        left,
-        right,
-    }))
 }
 
 /// A choice between two expressions.

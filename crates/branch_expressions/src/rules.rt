@@ -1,7 +1,6 @@
 //! What sequences, assignments and choices become beside what is left of them where their values are not used.
 ghost use Rattle.std.specs.Prelude.{◌≡◌, IfOk, IfSome, IsTrue, Some, false, true, not};
 ghost use Rattle.swc_ast.specs.Expressions.{assign_tree, cond_tree, seq_tree};
-ghost use Rattle.swc_ast.specs.Meaning.{is_unresolved};
 ghost use Rattle.swc_ast.specs.Parts.{ident_name};
 ghost use Rattle.swc_ast.specs.Views.{expr_tree};
 ghost use Rattle.swc_utils.specs.Globals.{unresolved};
@@ -11,25 +10,10 @@ ghost use Rattle.branch_expressions.specs.Choices.{IsName, Itself};
 
 use crate::ignored::Words;
 use crate::parts::add_all;
-use crate::rest::take;
 use std::alloc::{AllocError, Global};
-use swc_ast::{
-    AssignExpr, AssignOp, AssignTarget, CondExpr, Expr, Ident, SeqExpr, SyntaxContext, UnaryOp,
-};
+use swc_ast::{AssignExpr, AssignOp, AssignTarget, CondExpr, Expr, Ident, SeqExpr, UnaryOp};
 use swc_utils::{ExprCtx, ExprExt};
-
-/// Whether a scope of the program binds a name.
-fn is_bound(ctx: &ExprCtx, name: &Ident) -> bool
-    ensures { result ≡ not (is_unresolved (unresolved ctx.now) (ident_name name.now)) }
-{
-    name.ctxt != SyntaxContext::empty() && name.ctxt != ctx.unresolved_ctxt
-}
-
-fn is_same_name(a: &Ident, b: &Ident) -> bool
-    ensures { IsTrue result → ident_name a.now ≡ ident_name b.now }
-{
-    a.ctxt == b.ctxt && a.sym == b.sym
-}
+use tree_nodes::{is_bound, is_same_name, take};
 
 /// The name that an expression is.
 #[tactic(auto, using(swc_ast::proofs::Equations::forms))]

@@ -15,12 +15,13 @@ ghost use Rattle.branch_lists.specs.Exports.{among};
 ghost use Rattle.branch_lists.specs.Swept.{trees};
 
 use crate::exports::is_among;
-use crate::looks::{is_lexical, stays, stops};
+use crate::looks::{stays, stops};
 use branch_vars::{add_vars, declare};
 use std::alloc::{AllocError, Global};
 use std::vec::IntoIter;
 use stmt_like::StmtLike;
 use swc_ast::{Decl, Id, Ident, Stmt, VarDecl, VarDeclarator};
+use tree_nodes::is_lexical;
 
 /// Adds the names of declarators: of `var` all, of `let` and `const` those that are kept.
 fn add_picked<'a>(

@@ -6,22 +6,12 @@ ghost use Rattle.swc_ast.specs.Redex as redex;
 ghost use Rattle.swc_ast.specs.Statements.{var_tree};
 ghost use Rattle.swc_ast.specs.Views.{decl_tree, expr_tree, stmt_tree};
 ghost use Rattle.swc_ast.specs.Weight as weight;
-ghost use Rattle.static_proofs.specs.Shaped as shaped;
 ghost use Rattle.branch_rules.specs.Lists as lists;
 ghost use Rattle.branch_lists.specs.Swept.{trees};
 
 use stmt_like::StmtLike;
-use swc_ast::{Decl, Stmt, VarDecl, VarDeclKind};
-
-/// `let` and `const`
-pub(crate) fn is_lexical(kind: VarDeclKind) -> bool
-    ensures { result ≡ shaped.is_lexical kind }
-{
-    match kind {
-        VarDeclKind::Var => false,
-        VarDeclKind::Let | VarDeclKind::Const => true,
-    }
-}
+use swc_ast::{Decl, Stmt, VarDecl};
+use tree_nodes::is_lexical;
 
 /// Whether a declaration declares nothing but by `var`.
 fn is_bare_var(n: &VarDecl) -> bool

@@ -12,11 +12,8 @@ use crate::places::take_expr;
 use branch_expressions::{Left, ignore};
 use branch_vars::{declare_all_vars, declare_vars};
 use std::alloc::{AllocError, Global};
-use swc_ast::{Expr, ExprStmt, Span, Stmt};
+use swc_ast::{DUMMY_SP, Expr, ExprStmt, Stmt};
 use swc_utils::{ExprCtx, ExprExt};
-
-/// What stands nowhere in the text.
-const NOWHERE: Span = Span { lo: 0, hi: 0 };
 
 /// Adds an expression as a statement.
 #[tactic(auto, using(swc_ast::proofs::Equations::forms, swc_utils::proofs::Chains::pushed))]
@@ -25,7 +22,7 @@ fn push_expr(alloc: Global, e: Expr, out: &mut Vec<Stmt>) -> Result<(), AllocErr
 {
     let expr = Box::new(alloc, e)?;
     out.push(Stmt::Expr(ExprStmt {
-        span: NOWHERE,
+        span: DUMMY_SP,
         expr,
     }))?;
     Ok(())

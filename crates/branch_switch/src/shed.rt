@@ -8,7 +8,6 @@ ghost use Rattle.swc_ast.specs.declared.statements.SwitchCase.{size-SwitchCase};
 ghost use Rattle.swc_ast.specs.declared.statements.SwitchStmt.{size-SwitchStmt};
 ghost use Rattle.swc_ast.specs.Views.{decl_tree, expr_tree, stmt_tree, switch_tree};
 ghost use Rattle.swc_utils.specs.Globals.{unresolved};
-ghost use Rattle.static_proofs.specs.Shaped as shaped;
 ghost use Rattle.branch_rules.specs.Removes.{remove_pass};
 ghost use Rattle.branch_rules.specs.Switches as rules;
 ghost use Rattle.branch_switch.specs.Clauses.{clause, clauses};
@@ -21,18 +20,9 @@ use crate::sorts::sort_of;
 use crate::unbroken::run_fits;
 use crate::values::{Known, value_of};
 use std::alloc::{AllocError, Global};
-use swc_ast::{Decl, Stmt, SwitchCase, SwitchStmt, VarDecl, VarDeclKind};
+use swc_ast::{Decl, Stmt, SwitchCase, SwitchStmt, VarDecl};
 use swc_utils::ExprCtx;
-
-/// `let` and `const`
-fn is_lexical(kind: VarDeclKind) -> bool
-    ensures { result ≡ shaped.is_lexical kind }
-{
-    match kind {
-        VarDeclKind::Var => false,
-        VarDeclKind::Let | VarDeclKind::Const => true,
-    }
-}
+use tree_nodes::is_lexical;
 
 /// Whether a declaration declares names by `let` or `const`.
 fn is_shed_var(n: &VarDecl) -> bool

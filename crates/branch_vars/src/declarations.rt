@@ -11,10 +11,7 @@ ghost use Rattle.branch_vars.specs.Names.{names_of, statements, unset, unset_one
 use crate::gather::add_vars;
 use indexmap::IndexSet;
 use std::alloc::{AllocError, Global};
-use swc_ast::{Decl, Ident, Span, Stmt, VarDecl, VarDeclKind, VarDeclarator};
-
-/// What stands nowhere in the text.
-const NOWHERE: Span = Span { lo: 0, hi: 0 };
+use swc_ast::{DUMMY_SP, Decl, Ident, Stmt, VarDecl, VarDeclKind, VarDeclarator};
 
 /// A name without a first value.
 fn declarator(name: &Ident) -> Result<VarDeclarator, AllocError>
@@ -22,12 +19,12 @@ fn declarator(name: &Ident) -> Result<VarDeclarator, AllocError>
 {
     let (sym, ctxt) = name.to_id()?;
     let name = Ident {
-        span: NOWHERE,
+        span: DUMMY_SP,
         sym,
         ctxt,
     };
     Ok(VarDeclarator {
-        span: NOWHERE,
+        span: DUMMY_SP,
         name,
         init: None,
     })
@@ -59,7 +56,7 @@ pub fn declare(alloc: Global, names: &[&Ident]) -> Result<Option<Stmt>, AllocErr
         return Ok(None);
     }
     Ok(Some(Stmt::Decl(Decl::Var(VarDecl {
-        span: NOWHERE,
+        span: DUMMY_SP,
         kind: VarDeclKind::Var,
         decls,
     }))))

@@ -12,11 +12,11 @@ ghost use Rattle.dce_code.specs.Knowledge.{shaker};
 ghost use Rattle.dce_code.specs.Assignments.{Unread};
 
 use crate::known::Known;
-use crate::places::take_expr;
 use pass_places::shield;
 use std::alloc::{AllocError, Global};
 use swc_ast::{AssignExpr, AssignOp, AssignTarget, Expr};
 use swc_utils::ExprExt;
+use tree_nodes::take;
 use tree_walk::{Place, fits};
 
 impl<'a> Known<'a> {
@@ -47,7 +47,7 @@ impl<'a> Known<'a> {
         if n.right.may_have_side_effects(&self.ctx) {
             return None;
         }
-        Some(take_expr(&mut n.right))
+        Some(take(&mut n.right))
     }
 
     /// The same of an expression, where it is such an assignment.

@@ -14,9 +14,8 @@ ghost use Rattle.dce_code.specs.Left.{LeftOf};
 ghost use Rattle.dce_code.specs.Lists.{Sifted};
 
 use crate::known::Known;
-use crate::places::NOWHERE;
 use std::alloc::{AllocError, Global};
-use swc_ast::{Decl, EmptyStmt, Expr, Stmt, VarDecl, VarDeclarator};
+use swc_ast::{DUMMY_SP, Decl, EmptyStmt, Expr, Stmt, VarDecl, VarDeclarator};
 
 /// What is left of a statement.
 #[derive(Clone, Copy, Debug, PartialEq, Eq)]
@@ -123,7 +122,7 @@ impl<'a> Known<'a> {
             Left::Same => false,
             Left::Less => true,
             Left::Nothing => {
-                *s = Stmt::Empty(EmptyStmt { span: NOWHERE });
+                *s = Stmt::Empty(EmptyStmt { span: DUMMY_SP });
                 true
             }
         }

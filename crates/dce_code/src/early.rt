@@ -13,8 +13,7 @@ ghost use Rattle.dce_code.specs.Left.{EarlyLeft};
 
 use crate::declarations::{Left, is_nothing};
 use crate::known::Known;
-use crate::places::NOWHERE;
-use swc_ast::{Decl, EmptyStmt, Stmt, VarDecl, VarDeclarator};
+use swc_ast::{DUMMY_SP, Decl, EmptyStmt, Stmt, VarDecl, VarDeclarator};
 use swc_utils::ExprExt;
 
 impl<'a> Known<'a> {
@@ -84,7 +83,7 @@ impl<'a> Known<'a> {
             Left::Same => false,
             Left::Less => true,
             Left::Nothing => {
-                *s = Stmt::Empty(EmptyStmt { span: NOWHERE });
+                *s = Stmt::Empty(EmptyStmt { span: DUMMY_SP });
                 true
             }
         }

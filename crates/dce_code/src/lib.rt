@@ -8,7 +8,6 @@ mod known;
 mod lists;
 mod looks;
 mod objects;
-mod places;
 mod shut;
 mod values;
 

@@ -12,8 +12,8 @@ ghost use Rattle.dce_code.specs.Knowledge.{shaker};
 ghost use Rattle.dce_code.specs.Objects.{AddsNames, Gives, Returns, ReturnsAlone};
 
 use crate::known::Known;
-use crate::places::take_expr;
 use swc_ast::{CallExpr, Expr, FnExpr, Function, KeyValueProp, Prop, PropName, PropOrSpread, Stmt};
+use tree_nodes::take;
 
 /// Whether an expression is a name.
 #[tactic(auto, using(swc_ast::proofs::Equations::forms))]
@@ -89,7 +89,7 @@ fn take_object(e: &mut Expr) -> Option<Expr>
     if !is_object_of_names(e) {
         return None;
     }
-    Some(take_expr(e))
+    Some(take(e))
 }
 
 /// Takes such an object out of the statement that returns it.

@@ -29,7 +29,6 @@ use Rattle.swc_ast.specs.declared.expressions.PropOrSpread.TheVariants as in_pro
 use Rattle.swc_ast.specs.declared.expressions.SpreadElement.{SpreadElement}
 use Rattle.swc_ast.specs.declared.expressions.PropName.{PropName}
 use Rattle.swc_ast.specs.declared.expressions.PropName.TheVariants as key
-use Rattle.swc_utils.specs.Effects.{is_record_spread}
 use Rattle.swc_utils.proofs.Chains.{joined_none}
 use Rattle.expr_rules.specs.ExprSteps.{ExprStep, spread_object}
 use Rattle.expr_rules.specs.Spreads.{is_proto, has_proto_key, has_proto, opens, opened_property, opened_properties, opens_property, spreads_object}
@@ -45,16 +44,9 @@ prop_form_some (Open.Method n) = refl
 prop_some : (p : Prop) → (0 == prop_form (label_of (prop_tree p))) ≡ false
 prop_some p = subst (λ q. (0 == prop_form (label_of (prop_tree q))) ≡ false) (roll-out-Prop p) (ap (λ n. 0 == n) (prop_at (out-Prop p)) ∙ prop_form_some (out-Prop p))
 
-no_spread_by_form : (t : Tree) → (0 == prop_form (label_of t)) ≡ false → is_record_spread t ≡ false
-no_spread_by_form (node tree.SpreadRecord ss ts) h = impossible (sym h)
-no_spread_by_form (node _ ss ts) h = refl
-
 closed_by_form : (t : Tree) → (0 == prop_form (label_of t)) ≡ false → opens_property t ≡ false
 closed_by_form (node tree.SpreadRecord ss ts) h = impossible (sym h)
 closed_by_form (node _ ss ts) h = refl
-
-pub prop_no_spread : (p : Prop) → is_record_spread (prop_tree p) ≡ false
-prop_no_spread p = no_spread_by_form (prop_tree p) (prop_some p)
 
 pub prop_closed : (p : Prop) → opens_property (prop_tree p) ≡ false
 prop_closed p = closed_by_form (prop_tree p) (prop_some p)

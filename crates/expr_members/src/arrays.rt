@@ -1,33 +1,16 @@
 //! Array literals and their items.
-ghost use Rattle.std.specs.Prelude.{◌≡◌, [], ◌∷◌, true, IfOk, OnOk, map};
-ghost use Rattle.swc_ast.specs.Expressions.{item_kind, item_trees};
+ghost use Rattle.std.specs.Prelude.{◌≡◌, true, IfOk, OnOk};
+ghost use Rattle.swc_ast.specs.Expressions.{item_trees};
 ghost use Rattle.swc_ast.specs.Parts.{list_trees};
 ghost use Rattle.swc_ast.specs.Scope.{joined};
 ghost use Rattle.swc_ast.specs.Views.{expr_tree};
-ghost use Rattle.swc_utils.specs.Pure.{has_spread as kinds_have_spread};
-ghost use Rattle.pass_rules.specs.Leaves.{void_tree};
 ghost use Rattle.expr_rules.specs.Spreads.{is_array as tree_is_array};
 ghost use Rattle.expr_members.specs.Arrays.{is_plain_array as tree_is_plain_array, HasItems};
 
 use std::alloc::{AllocError, Global};
 use std::mem;
-use swc_ast::{Expr, ExprOrSpread, Lit, Number, Span, UnaryExpr, UnaryOp};
-
-/// Whether an item is spread.
-pub(crate) fn has_spread(items: &[Option<ExprOrSpread>]) -> bool
-    ensures { result ≡ kinds_have_spread (map item_kind items.now) }
-{
-    let mut left = items;
-    while let [item, rest @ ..] = left {
-        if let Some(item) = item {
-            if let Some(_) = item.spread {
-                return true;
-            }
-        }
-        left = rest;
-    }
-    false
-}
+use swc_ast::{Expr, ExprOrSpread};
+use swc_utils::has_spread;
 
 /// Whether an expression is an array literal.
 #[tactic(auto, using(swc_ast::proofs::Equations::forms, crate::proofs::OtherNodes::no_array))]
@@ -61,19 +44,6 @@ pub(crate) fn items_of(alloc: Global, e: Expr) -> Vec<Option<ExprOrSpread>>
         Expr::Array(n) => mem::replace(&mut n.elems, Vec::new(alloc)),
         _ => Vec::new(alloc),
     }
-}
-
-/// `void 0`
-#[tactic(auto, using(swc_ast::proofs::Equations::forms))]
-pub(crate) fn void_zero(alloc: Global, span: Span) -> Result<Expr, AllocError>
-    ensures { IfOk result (λ e. expr_tree e ≡ void_tree (span ∷ []) (span ∷ [])) }
-{
-    let zero = Expr::Lit(Lit::Num(Number { span, value: 0 }));
-    Ok(Expr::Unary(UnaryExpr {
-        span,
-        op: UnaryOp::Void,
-        arg: Box::new(alloc, zero)?,
-    }))
 }
 
 /// Adds the items of an array, holes left out.

@@ -10,12 +10,13 @@ ghost use Rattle.pass_rules.specs.Leaves.{void_tree};
 ghost use Rattle.expr_rules.specs.Members.{array_at};
 ghost use Rattle.expr_members.specs.Members.{item_value as tree_item_value, IsItem, IsLength, StandsFor};
 
-use crate::arrays::{has_spread, push_items, void_zero};
+use crate::arrays::push_items;
 use crate::keys::{index_of, length_literal};
 use std::alloc::{AllocError, Global};
 use std::mem;
 use swc_ast::{ArrayLit, Expr, ExprOrSpread, PassError, Span};
-use swc_utils::{ExprCtx, ExprExt, preserve_effects};
+use swc_utils::{ExprCtx, ExprExt, has_spread, preserve_effects};
+use tree_nodes::void_expr;
 
 /// Whether all items are pure.
 fn are_pure(ctx: &ExprCtx, items: &[Option<ExprOrSpread>]) -> bool
@@ -65,7 +66,7 @@ fn item_value(alloc: Global, span: Span, item: Option<ExprOrSpread>) -> Result<E
 {
     match item {
         Some(item) => Ok(Box::into_inner(item.expr)),
-        None => void_zero(alloc, span),
+        None => void_expr(alloc, span),
     }
 }
 

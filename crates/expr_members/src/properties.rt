@@ -4,8 +4,7 @@ ghost use Rattle.std.specs.Fmt.{signed_decimal};
 ghost use Rattle.swc_ast.specs.Parts.{list_trees};
 ghost use Rattle.swc_ast.specs.Scope.{joined};
 ghost use Rattle.swc_ast.specs.Expressions.{key_tree, object_tree};
-ghost use Rattle.swc_ast.specs.Views.{expr_tree, prop_or_spread_tree, prop_tree};
-ghost use Rattle.swc_utils.specs.Effects.{is_record_spread as tree_is_record_spread, has_record_spread};
+ghost use Rattle.swc_ast.specs.Views.{expr_tree, prop_or_spread_tree};
 ghost use Rattle.expr_rules.specs.Replaced.{Replaced};
 ghost use Rattle.expr_rules.specs.Spreads.{is_proto, has_proto as trees_have_proto, opened_property, opened_properties, opens_property as tree_opens_property, spreads_object as trees_spread_object};
 ghost use Rattle.expr_members.specs.Objects.{is_proto_key as tree_is_proto_key, is_opened_object as tree_is_opened_object, names_proto as tree_names_proto, HasProperties};
@@ -13,31 +12,7 @@ ghost use Rattle.expr_members.specs.Objects.{is_proto_key as tree_is_proto_key, 
 use std::alloc::{AllocError, Global};
 use std::mem;
 use swc_ast::{Expr, ObjectLit, Prop, PropName, PropOrSpread};
-
-/// Whether a property is a spread.
-#[tactic(auto, using(swc_ast::proofs::Equations::forms, crate::proofs::Props::prop_no_spread))]
-fn is_spread(prop: &PropOrSpread) -> bool
-    ensures { result ≡ tree_is_record_spread (prop_or_spread_tree prop.now) }
-{
-    match prop {
-        PropOrSpread::Spread(_) => true,
-        PropOrSpread::Prop(_) => false,
-    }
-}
-
-/// Whether one of some properties is a spread.
-fn has_spread(props: &[PropOrSpread]) -> bool
-    ensures { result ≡ has_record_spread (list_trees prop_or_spread_tree props.now) }
-{
-    let mut left = props;
-    while let [prop, rest @ ..] = left {
-        if is_spread(prop) {
-            return true;
-        }
-        left = rest;
-    }
-    false
-}
+use swc_utils::has_spread_prop;
 
 /// Whether the text of a number is `__proto__`: none is.
 #[tactic(auto, using(crate::proofs::Props::number_no_proto))]
@@ -95,7 +70,7 @@ fn is_opened_object(e: &Expr) -> bool
     ensures { result ≡ tree_is_opened_object (expr_tree e.now) }
 {
     match e {
-        Expr::Object(n) => !(has_spread(&n.props) || has_proto(&n.props)),
+        Expr::Object(n) => !(has_spread_prop(&n.props) || has_proto(&n.props)),
         _ => false,
     }
 }

@@ -1,7 +1,6 @@
 //! Sequences: what stands in front of the last item. ECMA-262, 13.16.
 ghost use Rattle.std.specs.Prelude.{◌≡◌, false, not, ◌&&◌, ◌||◌, ◌∷◌, [], IfOk, OnOk, IsNone};
-ghost use Rattle.swc_ast.specs.Meaning.{is_unresolved};
-ghost use Rattle.swc_ast.specs.Parts.{ident_name, list_trees};
+ghost use Rattle.swc_ast.specs.Parts.{list_trees};
 ghost use Rattle.swc_ast.specs.Scope.{joined};
 ghost use Rattle.swc_ast.specs.Expressions.{seq_tree};
 ghost use Rattle.swc_ast.specs.Views.{expr_tree};
@@ -15,15 +14,9 @@ ghost use Rattle.expr_members.specs.Fronts.{any_folds as any_tree_folds, all_fol
 use crate::arrays::{is_plain_array, items_of, push_items};
 use std::alloc::{AllocError, Global};
 use std::mem;
-use swc_ast::{Expr, Ident, SeqExpr, Span, SyntaxContext};
+use swc_ast::{Expr, SeqExpr, Span};
 use swc_utils::{ExprCtx, is_literal};
-
-/// Whether the module binds a name.
-fn is_bound(ctx: &ExprCtx, name: &Ident) -> bool
-    ensures { result ≡ not (is_unresolved (unresolved ctx.now) (ident_name name.now)) }
-{
-    !(name.ctxt == SyntaxContext::empty() || name.ctxt == ctx.unresolved_ctxt)
-}
+use tree_nodes::is_bound;
 
 /// Whether an expression is a name that the module binds.
 #[tactic(auto, using(swc_ast::proofs::Equations::forms, crate::proofs::OtherNodes::no_bound_name))]

@@ -7,10 +7,11 @@ ghost use Rattle.pass_rules.specs.Leaves.{void_tree};
 ghost use Rattle.expr_rules.specs.Replaced.{Replaced};
 ghost use Rattle.expr_rules.specs.Spreads.{filled_kinds, filled_items, opened_kinds, opened_items, spreads_array as kinds_spread_array};
 
-use crate::arrays::{is_array, items_of, void_zero};
+use crate::arrays::{is_array, items_of};
 use std::alloc::{AllocError, Global};
 use std::mem;
 use swc_ast::{ArrayLit, Expr, ExprOrSpread, Span};
+use tree_nodes::void_expr;
 
 /// Whether an item spreads an array literal.
 fn spreads_item(item: &Option<ExprOrSpread>) -> bool
@@ -46,7 +47,7 @@ fn filled(
     match item {
         Some(item) => Ok(Some(item)),
         None => {
-            let value = void_zero(alloc, span)?;
+            let value = void_expr(alloc, span)?;
             let expr = Box::new(alloc, value)?;
             Ok(Some(ExprOrSpread { spread: None, expr }))
         }

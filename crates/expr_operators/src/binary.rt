@@ -10,10 +10,10 @@ use crate::choices::{fold_logical, is_logical};
 use crate::comparisons::{fold_comparison, is_comparison};
 use crate::equality::{fold_equality, is_equality};
 use crate::instances::fold_instanceof;
-use crate::numbers::{fold_numeric, is_numeric};
+use crate::numbers::fold_numeric;
 use std::alloc::Global;
 use swc_ast::{BinExpr, BinaryOp, Expr, PassError};
-use swc_utils::ExprCtx;
+use swc_utils::{ExprCtx, is_numeric};
 
 /// What takes the place of an operator between its operands, where they are known: `+` by texts or numbers, the other
 /// operators on numbers by those, comparisons and equalities by texts, numbers, types and names, `instanceof` by the

@@ -9,10 +9,11 @@ ghost use Rattle.expr_rules.specs.Replaced.{Replaced, expr_redex};
 ghost use Rattle.expr_operators.specs.Nodes.{binary_of, cond_of};
 ghost use Rattle.expr_operators.specs.Steps.{Stands};
 
-use crate::operands::{sequence, take};
+use crate::operands::sequence;
 use std::alloc::Global;
 use swc_ast::{BinExpr, BinaryOp, CondExpr, Expr, PassError};
 use swc_utils::{ExprCtx, ExprExt, Purity, Value};
+use tree_nodes::take;
 
 /// `&&` and `||`
 pub(crate) fn is_logical(op: BinaryOp) -> bool

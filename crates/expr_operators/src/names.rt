@@ -1,6 +1,5 @@
 //! A bound name, or its type, beside itself.
-ghost use Rattle.std.specs.Prelude.{◌≡◌, IfSome, IsTrue, Some, not};
-ghost use Rattle.swc_ast.specs.Meaning.{is_unresolved};
+ghost use Rattle.std.specs.Prelude.{◌≡◌, IfSome, Some};
 ghost use Rattle.swc_ast.specs.Parts.{ident_name};
 ghost use Rattle.swc_ast.specs.Views.{expr_tree};
 ghost use Rattle.swc_utils.specs.Globals.{unresolved};
@@ -8,21 +7,9 @@ ghost use Rattle.expr_rules.specs.Comparisons as rules;
 ghost use Rattle.expr_operators.specs.Names as names;
 ghost use Rattle.expr_operators.specs.Steps.{TruthStep};
 
-use swc_ast::{BinaryOp, Expr, Ident, SyntaxContext, UnaryOp};
+use swc_ast::{BinaryOp, Expr, Ident, UnaryOp};
 use swc_utils::ExprCtx;
-
-/// Whether a scope of the program binds a name.
-fn is_bound(ctx: &ExprCtx, name: &Ident) -> bool
-    ensures { result ≡ not (is_unresolved (unresolved ctx.now) (ident_name name.now)) }
-{
-    name.ctxt != SyntaxContext::empty() && name.ctxt != ctx.unresolved_ctxt
-}
-
-fn is_same_name(a: &Ident, b: &Ident) -> bool
-    ensures { IsTrue result → ident_name a.now ≡ ident_name b.now }
-{
-    a.ctxt == b.ctxt && a.sym == b.sym
-}
+use tree_nodes::{is_bound, is_same_name};
 
 /// What is so of every value beside itself.
 fn value_beside_itself(op: BinaryOp) -> Option<bool>

@@ -16,30 +16,11 @@ ghost use Rattle.expr_operators.specs.Steps.{Regroups, Stands};
 use crate::arithmetic::{compute, is_zero};
 use crate::length::admits;
 use crate::literals::literal_number;
-use crate::operands::{behind_operands, binary_expr, number_expr, take};
+use crate::operands::{behind_operands, number_expr};
 use std::alloc::Global;
 use swc_ast::{BinExpr, BinaryOp, Expr, PassError};
 use swc_utils::{ExprCtx, ExprExt, Value};
-
-/// `- * / % ** & | ^` and the shifts, which give a number whatever their sides are.
-pub(crate) fn is_numeric(op: BinaryOp) -> bool
-    ensures { result ≡ types.is_numeric_op op }
-{
-    match op {
-        BinaryOp::Sub
-        | BinaryOp::Mul
-        | BinaryOp::Div
-        | BinaryOp::Mod
-        | BinaryOp::Exp
-        | BinaryOp::BitAnd
-        | BinaryOp::BitOr
-        | BinaryOp::BitXor
-        | BinaryOp::LShift
-        | BinaryOp::RShift
-        | BinaryOp::ZeroFillRShift => true,
-        _ => false,
-    }
-}
+use tree_nodes::{binary_expr, take};
 
 fn computed(op: BinaryOp, a: Value<Option<i64>>, b: Value<Option<i64>>) -> Value<Option<i64>>
     ensures { known_number result ≡ rules.computed op (known_number a) (known_number b) }

@@ -1,6 +1,6 @@
-//! What folds take and make: operands moved out of their nodes, and expressions of known values.
+//! What folds make: expressions of known values, behind the effects of operands.
 ghost use Rattle.std.specs.Prelude.{◌≡◌, IfOk, [], ◌∷◌, string_bytes};
-ghost use Rattle.swc_ast.specs.Tree.{Binary, Seq, node, ε, ◌⊳◌};
+ghost use Rattle.swc_ast.specs.Tree.{Seq, node, ε, ◌⊳◌};
 ghost use Rattle.swc_ast.specs.Views.{expr_tree};
 ghost use Rattle.swc_utils.specs.Effects.{effects_all, preserve};
 ghost use Rattle.swc_utils.specs.Globals.{unresolved};
@@ -8,20 +8,9 @@ ghost use Rattle.swc_utils.specs.Sound.{numeric};
 ghost use Rattle.pass_rules.specs.Leaves as leaves;
 
 use std::alloc::{AllocError, Global};
-use std::mem;
-use swc_ast::{
-    BinExpr, BinaryOp, Bool, Expr, Ident, Invalid, Lit, Number, PassError, SeqExpr, Span, Str,
-    UnaryExpr, UnaryOp,
-};
+use swc_ast::{BinExpr, Bool, Expr, Ident, Lit, Number, PassError, SeqExpr, Span, Str, UnaryExpr};
 use swc_utils::{ExprCtx, preserve_effects};
-
-/// Moves an expression out of its place.
-pub(crate) fn take(place: &mut Expr) -> Expr
-    ensures { result ≡ place.old }
-{
-    let span = Span { lo: 0, hi: 0 };
-    mem::replace(place, Expr::Invalid(Invalid { span }))
-}
+use tree_nodes::take;
 
 pub(crate) fn truth_expr(span: Span, value: bool) -> Expr
     ensures { expr_tree result ≡ leaves.truth_tree (span ∷ []) value }
@@ -54,16 +43,6 @@ pub(crate) fn number_expr(
     }
 }
 
-/// `void 0`
-pub(crate) fn void_expr(alloc: Global, span: Span) -> Result<Expr, AllocError>
-    ensures { IfOk result (λ r. expr_tree r ≡ leaves.void_tree (span ∷ []) (span ∷ [])) }
-{
-    let zero = Expr::Lit(Lit::Num(Number { span, value: 0 }));
-    let arg = Box::new(alloc, zero)?;
-    let op = UnaryOp::Void;
-    Ok(Expr::Unary(UnaryExpr { span, op, arg }))
-}
-
 /// `first, second`
 pub(crate) fn sequence(
     alloc: Global,
@@ -75,26 +54,6 @@ pub(crate) fn sequence(
 {
     let exprs = vec![in alloc; first, second]?;
     Ok(Expr::Seq(SeqExpr { span, exprs }))
-}
-
-/// An operator between two operands.
-pub(crate) fn binary_expr(
-    alloc: Global,
-    span: Span,
-    op: BinaryOp,
-    left: Expr,
-    right: Expr,
-) -> Result<Expr, AllocError>
-    ensures { IfOk result (λ r. expr_tree r ≡ node (Binary op) (span ∷ []) (expr_tree left ⊳ expr_tree right ⊳ ε)) }
-{
-    let left = Box::new(alloc, left)?;
-    let right = Box::new(alloc, right)?;
-    Ok(Expr::Bin(BinExpr {
-        span,
-        op,
-        left,
-        right,
-    }))
 }
 
 /// A value behind the effects of a node's operand.

@@ -17,10 +17,11 @@ ghost use Rattle.expr_operators.specs.Steps.{Stands};
 use crate::arithmetic::negate;
 use crate::bits::complement;
 use crate::literals::{literal_number, weighs_two};
-use crate::operands::{behind_operand, number_expr, text_expr, truth_expr, void_expr};
+use crate::operands::{behind_operand, number_expr, text_expr, truth_expr};
 use std::alloc::Global;
 use swc_ast::{Expr, Lit, PassError, UnaryExpr, UnaryOp};
 use swc_utils::{ExprCtx, ExprExt, Value};
+use tree_nodes::void_expr;
 
 /// `!a` of known truth: the other truth, behind the effects of `a`. `!` of a number literal stays.
 #[tactic(auto, using(crate::proofs::UnarySteps::not_step))]

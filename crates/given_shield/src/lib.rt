@@ -9,11 +9,8 @@ ghost use Rattle.swc_ast.specs.Views.{expr_tree};
 ghost use Rattle.given_shield.specs.Shield.{is_bare_callee as bare_callee, is_bare_operand as bare_operand, is_bare as bare, guarded as guarded_tree, shield};
 
 use std::alloc::{AllocError, Global};
-use swc_ast::{Expr, Ident, Lit, Number, SeqExpr, Span};
+use swc_ast::{DUMMY_SP, Expr, Ident, Lit, Number, SeqExpr};
 use tree_put::Spot;
-
-/// The span of what stands nowhere in the text.
-const NOWHERE: Span = Span { lo: 0, hi: 0 };
 
 /// Whether a name is spelled `eval`.
 fn is_named_eval(n: &Ident) -> bool
@@ -71,12 +68,12 @@ fn guarded(alloc: Global, e: Expr) -> Result<Expr, AllocError>
     ensures { IfOk result (λ r. expr_tree r ≡ guarded_tree (expr_tree e)) }
 {
     let zero = Expr::Lit(Lit::Num(Number {
-        span: NOWHERE,
+        span: DUMMY_SP,
         value: 0,
     }));
     let exprs = vec![in alloc; zero, e]?;
     Ok(Expr::Seq(SeqExpr {
-        span: NOWHERE,
+        span: DUMMY_SP,
         exprs,
     }))
 }

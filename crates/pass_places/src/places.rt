@@ -10,11 +10,8 @@ ghost use Rattle.pass_rules.specs.Leaves.{guarded};
 ghost use Rattle.pass_places.specs.Places as places;
 
 use std::alloc::{AllocError, Global};
-use swc_ast::{Expr, Lit, Number, SeqExpr, Span, UnaryOp};
+use swc_ast::{DUMMY_SP, Expr, Lit, Number, SeqExpr, UnaryOp};
 use tree_walk::{Place, fits};
-
-/// The span of what stands nowhere in the text.
-const NOWHERE: Span = Span { lo: 0, hi: 0 };
 
 /// Whether an expression is the literal 0.
 #[tactic(auto, using(swc_ast::proofs::Equations::forms))]
@@ -58,12 +55,12 @@ pub fn shield(alloc: Global, e: Expr) -> Result<Expr, AllocError>
     ensures depth { IfOk result (λ r. size-Expr r ≤ size-Expr e + 1) }
 {
     let zero = Expr::Lit(Lit::Num(Number {
-        span: NOWHERE,
+        span: DUMMY_SP,
         value: 0,
     }));
     let exprs = vec![in alloc; zero, e]?;
     Ok(Expr::Seq(SeqExpr {
-        span: NOWHERE,
+        span: DUMMY_SP,
         exprs,
     }))
 }

@@ -1,8 +1,8 @@
 -- Two lawful passes, one after the other, are a lawful pass.
-use Rattle.std.proofs.Common.{ℕ, Bool, true, false, ◌≡◌, ◌<◌, ◌&&◌, ◌||◌, refl, ap, ◌∙◌, sym, subst, arith, ◌⊎◌, inl, inr, Option, Some, None}
+use Rattle.std.proofs.Common.{ℕ, Bool, true, false, ◌≡◌, ◌<◌, ◌&&◌, ◌||◌, refl, ◌∙◌, subst, arith, ◌⊎◌, inl, inr, Option, Some, None}
 use Rattle.std.proofs.lemmas.Bool.{false≢true}
 use Rattle.swc_ast.specs.declared.names.Mark.{Mark}
-use Rattle.swc_ast.specs.Tree.{Tree, bare}
+use Rattle.swc_ast.specs.Tree.{Tree}
 use Rattle.swc_ast.specs.Valid.{valid}
 use Rattle.swc_ast.specs.Resolved.{IsResolved}
 use Rattle.swc_ast.specs.Core.{IsCore}

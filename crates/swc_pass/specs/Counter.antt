@@ -1,7 +1,7 @@
 -- Why an import of a given module binds nothing in the world with answers: with the import left in, this run ends inside the core ..
-use Rattle.std.specs.Prelude.{ℕ, zero, pos, ◌≡◌, refl, true, false, List, [], ◌∷◌, Some, None, bytes_eq, codes, if◌then◌else◌}
+use Rattle.std.specs.Prelude.{ℕ, zero, pos, ◌≡◌, refl, true, false, [], ◌∷◌, Some, bytes_eq, codes}
 use Rattle.swc_ast.specs.declared.AssignOp.TheVariants.{AddAssign}
-use Rattle.swc_ast.specs.Tree.{Text, Name, Label, NumLit, Read, Assign, Call, ExprStmt, Module, Import, ImportNamed, Tree, node, Forest, ε, ◌⊳◌}
+use Rattle.swc_ast.specs.Tree.{Name, NumLit, Read, Assign, Call, ExprStmt, Module, Import, ImportNamed, Tree, node, ε, ◌⊳◌}
 use Rattle.swc_ast.specs.Value.{Undefined, Num, Token, ∅, Load, Reads, Calls, Gives, Throws}
 use Rattle.swc_ast.specs.Run.{World, Sees, LeftCore, Threw, observe}
 use Rattle.swc_pass.specs.Given.{observe_given}

@@ -1,5 +1,5 @@
 -- A pass whose changes make a module lighter tells by its own flags whether a run of several changed something.
-use Rattle.std.proofs.Common.{Bool, true, false, ◌≡◌, ◌<◌, ◌||◌, refl, ap, ◌∙◌, sym, subst, arith, ◌⊎◌, inl, inr}
+use Rattle.std.proofs.Common.{Bool, true, false, ◌≡◌, ◌<◌, ◌||◌, ap, ◌∙◌, sym, subst, arith, ◌⊎◌, inl, inr}
 use Rattle.swc_ast.specs.Tree.{Tree, bare}
 use Rattle.swc_ast.specs.Weight.{weight}
 use Rattle.static_proofs.proofs.Bare.{weight_bare}

@@ -1,8 +1,8 @@
 -- A lawful pass that runs again and again is a lawful pass. Where each change makes a module lighter, it comes to an end.
-use Rattle.std.proofs.Common.{ℕ, ◌+◌, ◌≤◌, Bool, true, false, ◌≡◌, ◌<◌, if◌then◌else◌, refl, ap, ◌∙◌, sym, subst, arith, ◌⊎◌, inl, inr}
+use Rattle.std.proofs.Common.{ℕ, ◌+◌, ◌≤◌, Bool, true, false, ◌≡◌, ◌<◌, if◌then◌else◌, refl, sym, subst, arith, ◌⊎◌, inl, inr}
 use Rattle.std.specs.Prelude.{IsTrue, ◌↔◌}
 use Rattle.std.proofs.lemmas.Bool.{false≢true}
-use Rattle.swc_ast.specs.Tree.{Tree, bare}
+use Rattle.swc_ast.specs.Tree.{Tree}
 use Rattle.swc_ast.specs.Valid.{valid}
 use Rattle.swc_ast.specs.Resolved.{IsResolved}
 use Rattle.swc_ast.specs.Core.{IsCore}
@@ -12,8 +12,8 @@ use Rattle.meaning_proofs.proofs.Observations.{same_itself, same_trans}
 use Rattle.swc_pass.specs.Pass.{PassSpec, IsFor, IsLawful, SameBare, TellsChange}
 use Rattle.swc_pass.specs.Chain.{GivesBack}
 use Rattle.swc_pass.specs.ChainLaws.{given, lighter_on}
-use Rattle.swc_pass.specs.Lighter.{same_weight, Falls, falls, falls_on, falls_tells, falls_gives}
-use Rattle.swc_pass.specs.Repeat.{Rounds, none, changing, last, Rounded, Repeats, repeated}
+use Rattle.swc_pass.specs.Lighter.{falls, falls_tells, falls_gives}
+use Rattle.swc_pass.specs.Repeat.{Rounds, none, changing, last, Rounded, repeated}
 
 pub round_on : {answers : Tree → Tree → Type 0} {t v w : Tree} {n : ℕ} (b : Bool) → b ≡ true → Rounds answers t n false v → answers v w → TellsChange b v w → Rounds answers t (n + 1) false w
 round_on true e s a d = changing s a d

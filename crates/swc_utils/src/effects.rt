@@ -52,7 +52,8 @@ fn keeps_whole(op: UnaryOp, arg: &Expr) -> bool
     deletes(op) || is_typeof(op) && is_read(arg)
 }
 
-fn has_spread(items: &[Option<ExprOrSpread>]) -> bool
+/// Whether one of some items is spread.
+pub fn has_spread(items: &[Option<ExprOrSpread>]) -> bool
     ensures { result ≡ kinds_have_spread (map item_kind items.now) }
 {
     let mut left = items;
@@ -81,7 +82,8 @@ fn is_record_spread(prop: &PropOrSpread) -> bool
     }
 }
 
-fn has_spread_prop(props: &[PropOrSpread]) -> bool
+/// Whether one of some properties of an object literal is a spread.
+pub fn has_spread_prop(props: &[PropOrSpread]) -> bool
     ensures { result ≡ has_record_spread (list_trees prop_or_spread_tree props.now) }
 {
     let mut left = props;

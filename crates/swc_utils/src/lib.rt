@@ -16,6 +16,7 @@ mod values;
 
 pub use answers::{Purity, Value, ValueType};
 pub use context::ExprCtx;
-pub use effects::preserve_effects;
+pub use effects::{has_spread, has_spread_prop, preserve_effects};
 pub use ext::ExprExt;
 pub use literals::is_literal;
+pub use types::is_numeric;

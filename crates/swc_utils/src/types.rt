@@ -16,7 +16,7 @@ use crate::context::ExprCtx;
 use swc_ast::{AssignOp, BinaryOp, Expr, Ident, Lit, UnaryOp};
 
 /// Whether the operator gives a number, whatever its sides are.
-fn is_numeric(op: BinaryOp) -> bool
+pub fn is_numeric(op: BinaryOp) -> bool
     ensures { result ≡ trees.is_numeric_op op }
 {
     match op {

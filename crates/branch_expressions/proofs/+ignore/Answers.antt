@@ -81,7 +81,7 @@ pub objects::add_props-loop-i-preserved : goal.objects::add_props-loop-i-preserv
 objects::add_props-loop-i-preserved t c = (search rules, adds_more (unresolved c.args.ctx.now) (λ ps. properties_parts (unresolved c.args.ctx.now) (list_trees prop_or_spread_tree ps)) (properties_row (unresolved c.args.ctx.now)) c.args.props.now.items c.loop-i.i c.index_mut.result.now _ _ _ _ _ (search rules) (search rules) c.loop-i.invariant.1 (own_alone (unresolved c.args.ctx.now) (prop_or_spread_tree c.index_mut.result.now) _ _ _ (none_spread c.args.props.now.items c.loop-i.i c.index_mut.result.now (search rules) (search rules) c.requires) c.in_ok-made.ensures))
 
 pub objects::rest_of_object-returns : goal.objects::rest_of_object-returns
-objects::rest_of_object-returns t c = object_rested (unresolved c.args.ctx.now) (c.args.n.now.span ∷ []) (list_trees prop_or_spread_tree c.args.n.now.props.items) _ c.new-out.result.items c.add_props.new.out.items _ c.as_one.result c.changed.result (c.args.n.now.span ∷ []) (ap (λ xs. has_record_spread (list_trees prop_or_spread_tree xs)) (sym c.deref.ensures.value) ∙ sym c.has_spread.ensures ∙ c.if-has_spread.false) c.new-out.ensures.items c.in_ok-add_props.ensures c.as_one.ensures c.changed.ensures
+objects::rest_of_object-returns t c = object_rested (unresolved c.args.ctx.now) (c.args.n.now.span ∷ []) (list_trees prop_or_spread_tree c.args.n.now.props.items) _ c.new-out.result.items c.add_props.new.out.items _ c.as_one.result c.changed.result (c.args.n.now.span ∷ []) (ap (λ xs. has_record_spread (list_trees prop_or_spread_tree xs)) (sym c.deref.ensures.value) ∙ sym c.has_spread_prop.ensures ∙ c.if-has_spread_prop.false) c.new-out.ensures.items c.in_ok-add_props.ensures c.as_one.ensures c.changed.ensures
 
 pub lists::rest_of_sequence-returns-then-made : goal.lists::rest_of_sequence-returns-then-made
 lists::rest_of_sequence-returns-then-made t c = sequence_rested (unresolved c.args.ctx.now) (c.args.n.now.span ∷ []) (list_trees expr_tree c.args.n.now.exprs.items) _ c.new-out.result.items c.add_all.new.out.items c.in_ok-made.made c.as_one.result c.changed.result (c.args.n.now.span ∷ []) c.new-out.ensures.items c.if-made.true c.in_ok-made.ensures c.as_one.ensures c.changed.ensures

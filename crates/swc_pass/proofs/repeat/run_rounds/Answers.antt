@@ -1,5 +1,5 @@
-use Rattle.std.proofs.Common.{◌≡◌, ◌∙◌, sym, subst, refl, arith, ◌≤◌, ◌+◌}
-use Rattle.swc_pass.specs.Repeat.{Rounds, none}
+use Rattle.std.proofs.Common.{◌∙◌, sym, subst, refl, arith}
+use Rattle.swc_pass.specs.Repeat.{none}
 use Rattle.swc_pass.specs.RepeatLaws.{round_on, round_last}
 use Rattle.swc_pass.proofs.repeat.run_rounds.Goals as goal
 

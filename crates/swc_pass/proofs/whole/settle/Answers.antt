@@ -1,6 +1,6 @@
 use Rattle.std.proofs.Common.{◌∙◌, sym}
 use Rattle.std.proofs.lemmas.Bool.{false≢true}
-use Rattle.swc_pass.specs.Chain.{GivesBack, input, other}
+use Rattle.swc_pass.specs.Chain.{input, other}
 use Rattle.swc_pass.proofs.whole.settle.Goals as goal
 
 pub returns-then-is_same-clause-gives : goal.returns-then-is_same-clause-gives

@@ -4,4 +4,4 @@ use Rattle.swc_pass.proofs.Keeping.{clone_folded}
 use Rattle.swc_pass.proofs.repeat.RepeatPass.run_script.Goals as goal
 
 pub returns-clause-folded : goal.returns-clause-folded
-returns-clause-folded g c = clone_folded script_tree c.rewrite_script.result (repeated_lawful (g.met.P.Pass.lawful c.args.self.now.pass) _) c.in_ok-copy.ensures.cases c.rewrite_script.ensures.answer c.rewrite_script.ensures.changed
+returns-clause-folded g c = clone_folded _ script_tree c.rewrite_script.result (repeated_lawful (g.met.P.Pass.lawful c.args.self.now.pass) _) c.in_ok-copy.ensures.cases c.rewrite_script.ensures.answer c.rewrite_script.ensures.changed

@@ -2,7 +2,7 @@ use Rattle.std.proofs.Common.{[], ◌∷◌, ap, ◌∙◌}
 use Rattle.swc_ast.specs.Tree.{Binary, node, ε, ◌⊳◌}
 use Rattle.swc_ast.specs.Views.{expr_tree}
 use Rattle.swc_ast.proofs.Equations.{expr_tree-Bin}
-use Rattle.branch_expressions.proofs.rest.binary_expr.Goals as goal
+use Rattle.tree_nodes.proofs.make.binary_expr.Goals as goal
 
 pub returns : goal.returns
 returns c =
