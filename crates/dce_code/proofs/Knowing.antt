@@ -6,7 +6,7 @@ use Rattle.swc_ast.specs.Reach.{named_outside}
 use Rattle.swc_ast.specs.Run.{has_text}
 use Rattle.swc_ast.specs.Tree.{Name, Tree}
 use Rattle.swc_utils.specs.Globals.{unresolved}
-use Rattle.dce_rules.specs.Uses.{declared_in, read_in, is_used_unnamed, free_to_go, is_unread}
+use Rattle.dce_rules.specs.Uses.{declared_in, read_outside, is_used_unnamed, free_to_go, is_unread}
 use Rattle.dce_uses.specs.Tables.{Tells, is_free, is_held}
 use Rattle.dce_code.specs.Knowledge.{may_go, is_inner, is_inward, shaker}
 use Rattle.dce_code.specs.declared.known.Known.{Known}
@@ -49,12 +49,12 @@ bound_by false false u i h = absurd (false≢true h)
 bound_by false true true i h = absurd (false≢true h)
 bound_by false true false i h = refl
 
--- names whose assignments go are declared and never read
+-- names whose assignments go are declared and unread
 pub unread_is : (k : Known) (t : Tree) → Tells k.uses.now t → (x : Name) → (shaker k).unread x ≡ true → is_unread k.retained t x ≡ true
 unread_is k t told x h =
     let a = has_text x.text k.retained in
     let u = is_unresolved (unresolved k.ctx) x in
-    unread_by a (declared_in x t) (read_in x t || is_used_unnamed x t) u (is_inward k x) (subst (λ b. (not a && (b && (not u && is_inward k x))) ≡ true) (told.unread x) h)
+    unread_by a (declared_in x t) (read_outside x t || is_used_unnamed x t) u (is_inward k x) (subst (λ b. (not a && (b && (not u && is_inward k x))) ≡ true) (told.unread x) h)
 
 -- and not unresolved
 pub unread_bound : (k : Known) (x : Name) → (shaker k).unread x ≡ true → is_unresolved (unresolved k.ctx) x ≡ false

@@ -13,7 +13,7 @@ use Rattle.meaning_proofs.specs.Rewrites.{is_exported as exports}
 use Rattle.meaning_proofs.proofs.Names.{same_name_turned}
 use Rattle.meaning_proofs.proofs.Laws.{only_listed}
 use Rattle.meaning_proofs.proofs.Making.{module_same, script_same}
-use Rattle.dce_rules.specs.Uses.{read_in, declared_in, is_export_of, is_used_unnamed, free_to_go, is_unread}
+use Rattle.dce_rules.specs.Uses.{read_outside, declared_in, is_export_of, is_used_unnamed, free_to_go, is_unread}
 use Rattle.dce_proofs.proofs.Walked.{is_left, Nothing, empty_statement, empty_block, Moves, value_alone, value_guarded, Walked, same_node, same_list, same_import, declaration, first_values, opened, called, Items, no_item, item, function_goes, nothing_goes, import_goes, Shaken, module_shaken, script_shaken}
 use Rattle.dce_proofs.proofs.Names.{Unused, below}
 use Rattle.dce_proofs.proofs.Rewritten.{rewrites_items}
@@ -75,8 +75,8 @@ module _ (retained : List Text) (t : Tree) where
   free_parts : (x : Name) → free_to_go retained t x ≡ true → (named_outside x t ≡ false) × (is_used_unnamed x t ≡ false)
   free_parts x e = not_any (has_text x.text retained) (named_outside x t) (is_used_unnamed x t) e
 
-  unread_parts : (x : Name) → is_unread retained t x ≡ true → (read_in x t ≡ false) × (is_used_unnamed x t ≡ false)
-  unread_parts x e = not_any (has_text x.text retained) (read_in x t) (is_used_unnamed x t) (and_parts (declared_in x t) _ e).1
+  unread_parts : (x : Name) → is_unread retained t x ≡ true → (read_outside x t ≡ false) × (is_used_unnamed x t ≡ false)
+  unread_parts x e = not_any (has_text x.text retained) (read_outside x t) (is_used_unnamed x t) (and_parts (declared_in x t) _ e).1
 
   not_exported : (x : Name) → is_used_unnamed x t ≡ false → is_export_of x t ≡ false
   not_exported x e = (or_parts (is_export_of x t) _ e).0
@@ -92,10 +92,10 @@ module _ (retained : List Text) (loads : Bool) (mark : ℕ) (G K U : Name → Bo
 
   -- A module of which only names go that are free to go, and only assignments to names that nothing reads, does the same.
   pub shaken_same : {t u : Tree} → Shaken G K U mark (not loads) t u → ((x : Name) → G x ≡ true → free_to_go retained t x ≡ true) → ((x : Name) → U x ≡ true → is_unread retained t x ≡ true) → Same mark loads t u
-  shaken_same (module_shaken {ss} {rs} {ts} {us} h sl) free unread = module_same loads ss rs (rewrites_items h (below K Module tt (all_unused (node Module ss ts) free unread)))
+  shaken_same (module_shaken {ss} {rs} {ts} {us} h sl) free unread = module_same loads ss rs (rewrites_items h (below K Module tt tt (all_unused (node Module ss ts) free unread)))
       (λ x e.
       let g : G x ≡ false = apart_of (G x) (exports x (exported ts)) (λ d. exports_turned x (exported ts) ∙ not_exported retained (node Module ss ts) x (free_parts retained (node Module ss ts) x (free x d)).1) e in
       let u : U x ≡ false = apart_of (U x) (exports x (exported ts)) (λ d. exports_turned x (exported ts) ∙ not_exported retained (node Module ss ts) x (unread_parts retained (node Module ss ts) x (unread x d)).1) e in
       stays (and_left (G x) (not (K x)) g) (or_from (U x) (is_left G K x) u (and_left (G x) (K x) g)))
       (loaded_alike loads h) sl
-  shaken_same (script_shaken {ss} {rs} {ts} {us} h sl) free unread = script_same loads ss rs (only_listed (rewrites_items h (below K Script tt (all_unused (node Script ss ts) free unread)))) sl
+  shaken_same (script_shaken {ss} {rs} {ts} {us} h sl) free unread = script_same loads ss rs (only_listed (rewrites_items h (below K Script tt tt (all_unused (node Script ss ts) free unread)))) sl

@@ -6,7 +6,7 @@ use Rattle.swc_ast.specs.Tree.{Text, Name, Label, Read, CallEval, Shorthand, Typ
 use Rattle.swc_ast.specs.Scope.{is_function, has_name, option_name, param_names, imported_name}
 use Rattle.swc_ast.specs.Run.{exported, has_text}
 use Rattle.swc_ast.specs.Resolved.{params_of}
-use Rattle.swc_ast.specs.Reach.{named_by, named_outside, is_exported}
+use Rattle.swc_ast.specs.Reach.{named_by, declares, named_outside, is_exported}
 
 -- reads: all but plain assignments
 
@@ -27,13 +27,13 @@ read_by (ExportSpecifier x t) = x ∷ []
 read_by _ = []
 
 abbrev mutual
-  -- whether a name is read anywhere in a tree
-  pub read_in : Name → Tree → Bool
-  read_in x (node l ss cs) = has_name x (read_by l) || read_among x cs
+  -- whether a name is read outside the declarations of functions of that name
+  pub read_outside : Name → Tree → Bool
+  read_outside x (node l ss cs) = if declares x l then false else (has_name x (read_by l) || outside_among x cs)
 
-  pub read_among : Name → Forest → Bool
-  read_among x ε = false
-  read_among x (t ⊳ ts) = read_in x t || read_among x ts
+  pub outside_among : Name → Forest → Bool
+  outside_among x ε = false
+  outside_among x (t ⊳ ts) = read_outside x t || outside_among x ts
 
 -- `arguments`
 
@@ -124,6 +124,7 @@ is_used_unnamed x t = is_export_of x t || (is_argument x t || seen_by_eval x t)
 abbrev pub free_to_go : List Text → Tree → Name → Bool
 free_to_go retained t x = not (has_text x.text retained || (named_outside x t || is_used_unnamed x t))
 
--- a name that is declared, but neither retained nor read: its plain assignments may go
+-- a name that is declared, but neither retained nor read, but by functions of that name, which then never run: its plain
+-- assignments may go
 abbrev pub is_unread : List Text → Tree → Name → Bool
-is_unread retained t x = declared_in x t && not (has_text x.text retained || (read_in x t || is_used_unnamed x t))
+is_unread retained t x = declared_in x t && not (has_text x.text retained || (read_outside x t || is_used_unnamed x t))

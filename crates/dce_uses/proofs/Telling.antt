@@ -8,7 +8,7 @@ use Rattle.swc_ast.specs.Tree as tree
 use Rattle.swc_ast.specs.Tree.{Name, Label, same_name, Tree, node, Forest, ε, ◌⊳◌}
 use Rattle.swc_ast.specs.Scope.{is_function, has_name}
 use Rattle.swc_ast.specs.Reach.{named_by, declares, named_outside, outside_in}
-use Rattle.dce_rules.specs.Uses.{target_read, read_by, read_in, read_among, declared_by_node, declared_in, declared_among, is_eval, calls_eval, any_eval, is_argument, argument_among, seen_by_eval, eval_among}
+use Rattle.dce_rules.specs.Uses.{target_read, read_by, read_outside, outside_among, declared_by_node, declared_in, declared_among, is_eval, calls_eval, any_eval, is_argument, argument_among, seen_by_eval, eval_among}
 use Rattle.dce_uses.specs.declared.place.Place.{Place}
 use Rattle.dce_uses.specs.declared.tally.Fact.TheVariants as fact
 use Rattle.dce_uses.specs.Noted.{function_name, is_plain_assignment, reads, writes, is_own_argument, below, noted, noted_among}
@@ -26,7 +26,7 @@ or_again : (a : Bool) → a ≡ (a || a)
 or_again true = refl
 or_again false = refl
 
--- reads and declarations
+-- reads
 
 target_read_as : (x y : Name) (op : AssignOp) → (not (is_plain_assignment op) && (same_name x y || false)) ≡ has_name x (target_read op y)
 target_read_as x y Plain = refl
@@ -36,14 +36,28 @@ read_as : (x : Name) (l : Label) → (reads l && has_name x (named_by l)) ≡ ha
 read_as x (tree.Assign op y) = target_read_as x y op
 read_as x l = refl
 
-mutual
-  pub readings : (x : Name) (p : Place) (t : Tree) → noted fact.Read x p t ≡ read_in x t
-  readings x p (node l ss cs) = or_false (((reads l && has_name x (named_by l)) || false) || noted_among fact.Read x (below p l) cs) ∙ ap₂ (λ a b. a || b) (or_false (reads l && has_name x (named_by l)) ∙ read_as x l) (readings_among x (below p l) cs)
+own_function : (x : Name) (l : Label) → has_name x (function_name l) ≡ declares x l
+own_function x (tree.FnDecl f) = or_false (same_name x f)
+own_function x (tree.ExportDefaultFn (Some f)) = or_false (same_name x f)
+own_function x (tree.ExportDefaultFn None) = refl
+own_function x l = refl
 
-  readings_among : (x : Name) (p : Place) (ts : Forest) → noted_among fact.Read x p ts ≡ read_among x ts
+one_read : (b r used outside : Bool) → used ≡ outside → (if b then false else (((r || false) || used) || false)) ≡ (if b then false else (r || outside))
+one_read true r used outside rest = refl
+one_read false r used outside rest = or_false ((r || false) || used) ∙ ap₂ (λ a b. a || b) (or_false r) rest
+
+-- reads outside the declarations of functions of that name
+mutual
+  pub readings : (x : Name) (p : Place) (t : Tree) → noted fact.Used x p t ≡ read_outside x t
+  readings x p (node l ss cs) =
+      one_read (has_name x (function_name l)) (reads l && has_name x (named_by l)) (noted_among fact.Used x (below p l) cs) (outside_among x cs) (readings_among x (below p l) cs)
+      ∙ ap₂ (λ b r. if b then false else (r || outside_among x cs)) (own_function x l) (read_as x l)
+
+  readings_among : (x : Name) (p : Place) (ts : Forest) → noted_among fact.Used x p ts ≡ outside_among x ts
   readings_among x p ε = refl
   readings_among x p (t ⊳ ts) = ap₂ (λ a b. a || b) (readings x p t) (readings_among x p ts)
 
+-- declarations
 mutual
   pub declarations : (x : Name) (p : Place) (t : Tree) → noted fact.Declared x p t ≡ declared_in x t
   declarations x p (node l ss cs) = or_false (has_name x (declared_by_node l) || noted_among fact.Declared x (below p l) cs) ∙ ap (λ b. has_name x (declared_by_node l) || b) (declarations_among x (below p l) cs)
@@ -53,12 +67,6 @@ mutual
   declarations_among x p (t ⊳ ts) = ap₂ (λ a b. a || b) (declarations x p t) (declarations_among x p ts)
 
 -- names outside the declarations of functions of that name
-
-own_function : (x : Name) (l : Label) → has_name x (function_name l) ≡ declares x l
-own_function x (tree.FnDecl f) = or_false (same_name x f)
-own_function x (tree.ExportDefaultFn (Some f)) = or_false (same_name x f)
-own_function x (tree.ExportDefaultFn None) = refl
-own_function x l = refl
 
 target_named : (b c : Bool) → c ≡ ((b && c) || (true && c))
 target_named true c = or_again c

@@ -79,7 +79,7 @@ hidden_as h e d s is = or_grouped h e d ∙ ap (λ b. h || b) (sym is) ∙ or_sw
 pub tells : (u : Uses) (t : Tree) (exports : Name → Bool) → ((f : Fact) (x : Name) → fact_of u.table f x ≡ (noted f x at_top t || (is_hiding f && exports x))) → ((x : Name) → is_export_of x t ≡ (exports x || is_default u x)) → Tells u t
 tells u t exports facts said = record {
   free = λ x. ap₂ (λ a b. not (a || b)) (ap₂ (λ a b. a || b) (facts fact.Used x ∙ or_false _) (facts fact.Written x ∙ or_false _) ∙ namings x at_top t) (hidden x);
-  unread = λ x. ap₂ (λ a b. a && b) (facts fact.Declared x ∙ or_false _ ∙ declarations x at_top t) (ap₂ (λ a b. not (a || b)) (facts fact.Read x ∙ or_false _ ∙ readings x at_top t) (hidden x));
+  unread = λ x. ap₂ (λ a b. a && b) (facts fact.Declared x ∙ or_false _ ∙ declarations x at_top t) (ap₂ (λ a b. not (a || b)) (facts fact.Used x ∙ or_false _ ∙ readings x at_top t) (hidden x));
   held = λ x. facts fact.Held x ∙ or_false _;
   abroad = λ x. facts fact.Abroad x ∙ or_false _;
 }
@@ -105,7 +105,6 @@ module_told u start counted ss items blank counts exports unnamed =
 in_module : (f : Fact) (x : Name) (t : Tree) → noted f x at_top (node tree.Module [] (t ⊳ ε)) ≡ noted f x at_top t
 in_module fact.Used x t = or_false _ ∙ or_false _
 in_module fact.Written x t = or_false _ ∙ or_false _
-in_module fact.Read x t = or_false _ ∙ or_false _
 in_module fact.Abroad x t = or_false _ ∙ or_false _
 in_module fact.Declared x t = or_false _ ∙ or_false _
 in_module fact.Held x t = or_false _ ∙ or_false _

@@ -60,7 +60,6 @@ at_top = record { in_function = false; in_block = false; in_declaration = false;
 -- what a node says of the name that it reads or writes
 abbrev pub naming : Fact → Place → Label → Bool
 naming fact.Used p l = reads l
-naming fact.Read p l = reads l
 naming fact.Written p l = writes l
 naming fact.Abroad p l = not p.in_declaration
 naming _ p l = false

@@ -14,7 +14,6 @@ use Rattle.dce_uses.specs.Noted.{noted, at_top, is_counted}
 abbrev pub holds : Tally → Fact → Bool
 holds t fact.Used = t.uses
 holds t fact.Written = t.writes
-holds t fact.Read = t.is_read
 holds t fact.Abroad = t.is_abroad
 holds t fact.Declared = t.is_declared
 holds t fact.Held = t.is_held
@@ -49,9 +48,9 @@ is_hidden u x = fact_of u.table fact.Hidden x || is_default u x
 abbrev pub is_free : Uses → Name → Bool
 is_free u x = not ((fact_of u.table fact.Used x || fact_of u.table fact.Written x) || is_hidden u x)
 
--- the names that are declared and never read
+-- the names that are declared and never read, but in functions of that name
 abbrev pub is_unused : Uses → Name → Bool
-is_unused u x = fact_of u.table fact.Declared x && not (fact_of u.table fact.Read x || is_hidden u x)
+is_unused u x = fact_of u.table fact.Declared x && not (fact_of u.table fact.Used x || is_hidden u x)
 
 -- the names that are declared at the top level
 abbrev pub is_held : Uses → Name → Bool

@@ -26,11 +26,9 @@ use tree_visit::{Children, Kind, Node};
 fn naming(kind: Kind<'_>, place: Place) -> Tally
     ensures { (f : facts.Fact) → holds result f ≡ noted.naming f place (kind_label kind.entry) }
 {
-    let is_read = is_read(kind);
     Tally {
-        uses: is_read,
+        uses: is_read(kind),
         writes: is_written(kind),
-        is_read,
         is_abroad: !place.in_declaration,
         ..Tally::empty()
     }

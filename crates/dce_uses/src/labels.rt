@@ -77,7 +77,7 @@ pub fn declared_name<'a>(kind: Kind<'a>) -> Option<&'a Ident>
 }
 
 /// The name of a function that a node declares.
-pub(crate) fn function_name<'a>(kind: Kind<'a>) -> Option<&'a Ident>
+pub fn function_name<'a>(kind: Kind<'a>) -> Option<&'a Ident>
     ensures { optional result ≡ noted.function_name (kind_label kind.entry) }
 {
     match kind {

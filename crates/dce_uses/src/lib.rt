@@ -13,6 +13,6 @@ mod table;
 mod tally;
 mod uses;
 
-pub use labels::{declared_name, is_read, named};
+pub use labels::{declared_name, function_name, is_read, named};
 pub use retained::Retained;
 pub use uses::{Uses, is_default};

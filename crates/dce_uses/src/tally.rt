@@ -11,8 +11,6 @@ pub(crate) enum Fact {
     Used,
     /// It is written there.
     Written,
-    /// It is read somewhere.
-    Read,
     /// It occurs outside all declarations of functions.
     Abroad,
     /// It is declared.
@@ -28,7 +26,6 @@ pub(crate) enum Fact {
 pub(crate) struct Tally {
     pub(crate) uses: bool,
     pub(crate) writes: bool,
-    pub(crate) is_read: bool,
     pub(crate) is_abroad: bool,
     pub(crate) is_declared: bool,
     pub(crate) is_held: bool,
@@ -43,7 +40,6 @@ impl Tally {
         Tally {
             uses: false,
             writes: false,
-            is_read: false,
             is_abroad: false,
             is_declared: false,
             is_held: false,
@@ -58,7 +54,6 @@ impl Tally {
         match fact {
             Fact::Used => self.uses,
             Fact::Written => self.writes,
-            Fact::Read => self.is_read,
             Fact::Abroad => self.is_abroad,
             Fact::Declared => self.is_declared,
             Fact::Held => self.is_held,
@@ -83,7 +78,6 @@ impl Tally {
         Tally {
             uses: self.uses || other.uses,
             writes: self.writes || other.writes,
-            is_read: self.is_read || other.is_read,
             is_abroad: self.is_abroad || other.is_abroad,
             is_declared: self.is_declared || other.is_declared,
             is_held: self.is_held || other.is_held,

@@ -84,13 +84,13 @@ impl Uses {
         !(tally.has(Fact::Used) || tally.has(Fact::Written) || is_hidden)
     }
 
-    /// Whether a name is declared and never read.
+    /// Whether a name is declared and never read: inside the declaration of a function its own name doesn't count.
     pub fn is_unread(&self, name: &Ident) -> bool
         ensures { result ≡ tables.is_unused self.now (ident_name name.now) }
     {
         let tally = self.table.tally(name);
         let is_hidden = tally.has(Fact::Hidden) || self.exports_default && is_default(name);
-        tally.has(Fact::Declared) && !(tally.has(Fact::Read) || is_hidden)
+        tally.has(Fact::Declared) && !(tally.has(Fact::Used) || is_hidden)
     }
 
     /// Whether a name is declared at the top level: a function or `var` outside functions, others outside blocks.

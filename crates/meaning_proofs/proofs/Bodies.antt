@@ -10,12 +10,12 @@ use Rattle.swc_ast.specs.Meaning.{cell_of_declared}
 use Rattle.swc_ast.specs.Call.{var_cell, body_cells}
 use Rattle.meaning_proofs.specs.Names.{Names, empty, full}
 use Rattle.meaning_proofs.specs.Exact.{Evaluation, GivesUndefined}
-use Rattle.meaning_proofs.specs.Roles.{is_part, rewrites_each, holds_function, Clean}
+use Rattle.meaning_proofs.specs.Roles.{is_part, rewrites_each, holds_function, of_declaration, of_default, Clean}
 use Rattle.meaning_proofs.specs.Rewrites.{Rewrites, kept, kept_list, kept_declarators, kept_import, kept_known, kept_unset, kept_default, kept_switch, drop_own, All, nil, cons, Listed}
 use Rattle.meaning_proofs.proofs.Relation.{Pairing, Maybe, neither, both, SameEnv, V, undefined, same_held, SameCell, alike}
 use Rattle.meaning_proofs.proofs.Scopes.{Born}
 use Rattle.meaning_proofs.proofs.Statements.{some_is, found_is, declared_cell_sim, is_found_same}
-use Rattle.meaning_proofs.proofs.Declared.{ListRole, View, part, other, view, same_label}
+use Rattle.meaning_proofs.proofs.Declared.{ListRole, View, part, a_function, other, view, same_label}
 
 -- labels
 
@@ -74,6 +74,8 @@ module _ {N : Names} {mark : ℕ} {does : Evaluation} where
   plain_param _ c h = no_param refl
 
   pub params_of : {t u : Tree} → View N mark does t u → ParamsOf N mark does t u
+  params_of (a_function of_declaration) = no_params refl
+  params_of (a_function of_default) = no_params refl
   params_of (other p q) = no_params (other_params _ p)
   params_of (part (kept l p q c o sc h) e) = plain_params l h
   params_of (part (kept_list l p q h) e) = no_params (list_params l p)
@@ -86,6 +88,8 @@ module _ {N : Names} {mark : ℕ} {does : Evaluation} where
   params_of (part (drop_own q d g sc h) e) = no_params refl
 
   pub body_of : {t u : Tree} → View N mark does t u → BodyOf N mark does t u
+  body_of (a_function of_declaration) = no_body refl refl
+  body_of (a_function of_default) = no_body refl refl
   body_of (other p q) = no_body (other_body _ p) (other_body _ q)
   body_of (part (kept l p q c o sc h) e) = no_body (plain_body l p) (plain_body l p)
   body_of (part (kept_list l p q h) e) = list_body l p h
@@ -98,6 +102,8 @@ module _ {N : Names} {mark : ℕ} {does : Evaluation} where
   body_of (part (drop_own q d g sc h) e) = no_body refl refl
 
   pub param_of : {t u : Tree} → View N mark does t u → ParamOf N mark does t u
+  param_of (a_function of_declaration) = no_param refl
+  param_of (a_function of_default) = no_param refl
   param_of (other p q) = no_param (other_param _ p)
   param_of (part (kept l p q c o sc h) e) = plain_param l c h
   param_of (part (kept_list l p q h) e) = no_param (list_param l p)

@@ -11,9 +11,9 @@ use Rattle.swc_ast.specs.Scope.{Declaration, Lexical, Function, name_or_default,
 use Rattle.swc_ast.specs.Meaning.{copied_names}
 use Rattle.meaning_proofs.specs.Names.{Names, is_firm, is_known}
 use Rattle.meaning_proofs.specs.Exact.{Evaluation}
-use Rattle.meaning_proofs.specs.Roles.{is_part, rewrites_each, holds_function, Fits, unchanged, changed, SameLists, SameVars, DeclaresNone, Free, free_name, Clean}
-use Rattle.meaning_proofs.specs.Rewrites.{Kept, kept, kept_list, kept_declarators, kept_import, kept_known, kept_unset, kept_default, kept_switch, drop_own, Rewrites, step, All, nil, cons, drop, drop_rewritten, stop, Unreached, end, stay, leave, Listed, listed}
-use Rattle.meaning_proofs.proofs.Relation.{Pairing, Maybe, neither, both, SameDeclaration, lexical, declared_function}
+use Rattle.meaning_proofs.specs.Roles.{is_part, rewrites_each, holds_function, Fits, unchanged, changed, SameLists, SameVars, DeclaresNone, FunctionOf, of_declaration, of_default, Free, free_name, Clean}
+use Rattle.meaning_proofs.specs.Rewrites.{Kept, kept, kept_list, kept_declarators, kept_import, kept_known, kept_unset, kept_default, kept_switch, drop_own, KeptOrUnseen, as_kept, unseen, Rewrites, step, All, nil, cons, drop, drop_rewritten, stop, Unreached, end, stay, leave, Listed, listed}
+use Rattle.meaning_proofs.proofs.Relation.{Pairing, Maybe, neither, both, SameDeclaration, lexical, declared_function, unseen_function}
 use Rattle.meaning_proofs.proofs.Names.{other_name, other_name', same_name_eq, same_name_turned}
 use Rattle.meaning_proofs.proofs.Finds.{or_else, or_else_sim, is_none, has_append, found_lexical, found_cons, has_cons}
 
@@ -22,7 +22,7 @@ pairing N mark does ignores = record { Keeps = Kept N mark does; ignores = ignor
 
 -- what a parent sees of two trees
 pub record Role (P : Pairing) (t u : Tree) : Type 0 where
-  pub declares : (x : Name) → P.dropped x ≡ false → Maybe (SameDeclaration P) (found x (declared_by t)) (found x (declared_by u))
+  pub declares : (x : Name) → P.dropped x ≡ false → Maybe (SameDeclaration P x) (found x (declared_by t)) (found x (declared_by u))
   pub copied : (x : Name) → P.dropped x ≡ false → is_found x (copied_names t) ≡ is_found x (copied_names u)
   pub fresh : (x : Name) → P.guarded x ≡ true → holds_function (found x (declared_by t)) ≡ false
   pub var_undefined : (x : Name) → P.guarded x ≡ true → has_name x (vars t) ≡ true → P.guard x ≡ Some Undefined
@@ -30,7 +30,7 @@ pub record Role (P : Pairing) (t u : Tree) : Type 0 where
 
 -- what a parent sees of two lists
 pub record ListRole (P : Pairing) (ts us : Forest) : Type 0 where
-  pub declares : (x : Name) → P.dropped x ≡ false → Maybe (SameDeclaration P) (found x (declared ts)) (found x (declared us))
+  pub declares : (x : Name) → P.dropped x ≡ false → Maybe (SameDeclaration P x) (found x (declared ts)) (found x (declared us))
   pub vars : (x : Name) → P.dropped x ≡ false → P.slack x ≡ false → has_name x (vars_all ts) ≡ has_name x (vars_all us)
   pub fresh : (x : Name) → P.guarded x ≡ true → holds_function (found x (declared ts)) ≡ false
   pub var_undefined : (x : Name) → P.guarded x ≡ true → has_name x (vars_all ts) ≡ true → P.guard x ≡ Some Undefined
@@ -47,9 +47,10 @@ has_name_cons x t ts = ap (has_name x) (names_cons t ts) ∙ has_append x (decla
 
 -- labels
 
--- how one tree stands for another: kept, or neither is what a parent looks for
+-- how one tree stands for another: kept, a function of one name for another, or neither is what a parent looks for
 pub data View (N : Names) (mark : ℕ) (does : Evaluation) : Tree → Tree → Type 0 where
   part : {t u : Tree} → Kept N mark does t u → label_of t ≡ label_of u → View N mark does t u
+  a_function : {x : Name} {l : Label} {ss rs : List Span} {cs us : Forest} → FunctionOf x l → View N mark does (node l ss cs) (node l rs us)
   other : {t u : Tree} → is_part (label_of t) ≡ false → is_part (label_of u) ≡ false → View N mark does t u
 
 module _ {N : Names} {mark : ℕ} {does : Evaluation} where
@@ -75,10 +76,18 @@ module _ {N : Names} {mark : ℕ} {does : Evaluation} where
   kept_view (kept_switch q r k a e i h) = other refl refl
   kept_view (drop_own q d g sc h) = other refl refl
 
-  view_of : {t u v w : Tree} → Fits N t u → Kept N mark does u v → Fits N v w → View N mark does t w
-  view_of unchanged k unchanged = kept_view k
-  view_of unchanged k (changed p q s) = other (kept_part k ∙ p) q
-  view_of (changed p q s) k unchanged = other p (sym (kept_part k) ∙ q)
+  either_part : {t u : Tree} → KeptOrUnseen N mark does t u → is_part (label_of t) ≡ is_part (label_of u)
+  either_part (as_kept k) = kept_part k
+  either_part (unseen d q l g) = refl
+
+  either_view : {t u : Tree} → KeptOrUnseen N mark does t u → View N mark does t u
+  either_view (as_kept k) = kept_view k
+  either_view (unseen d q l g) = a_function d
+
+  view_of : {t u v w : Tree} → Fits N t u → KeptOrUnseen N mark does u v → Fits N v w → View N mark does t w
+  view_of unchanged k unchanged = either_view k
+  view_of unchanged k (changed p q s) = other (either_part k ∙ p) q
+  view_of (changed p q s) k unchanged = other p (sym (either_part k) ∙ q)
   view_of (changed p q s) k (changed r o i) = other p o
 
   pub view : {t u : Tree} → Rewrites N mark does t u → View N mark does t u
@@ -87,6 +96,7 @@ module _ {N : Names} {mark : ℕ} {does : Evaluation} where
   -- what a parent may ask of a child's label_of
   pub same_label : {A : Type 0} (f : Label → A) (a : A) → ((l : Label) → is_part l ≡ false → f l ≡ a) → {t u : Tree} → View N mark does t u → f (label_of t) ≡ f (label_of u)
   same_label f a h (part k e) = ap f e
+  same_label f a h (a_function d) = refl
   same_label f a h (other p q) = h _ p ∙ sym (h _ q)
 
 no_declarator : (l : Label) → is_part l ≡ false → declarator_name l ≡ []
@@ -95,12 +105,12 @@ no_declarator _ e = refl
 
 -- one name against another
 
-unless : {A : Type 0} {RA : A → A → Type 0} (b : Bool) (a d : A) → RA a d → Maybe RA (cond b (Some a) None) (cond b (Some d) None)
-unless true a d r = both r
+unless : {A : Type 0} {RA : A → A → Type 0} (b : Bool) (a d : A) → (b ≡ true → RA a d) → Maybe RA (cond b (Some a) None) (cond b (Some d) None)
+unless true a d r = both (r refl)
 unless false a d r = neither
 
-lexical_if : (b d : Bool) (w : Bool) {P : Pairing} → b ≡ d → Maybe (SameDeclaration P) (cond b (Some (Lexical w)) None) (cond d (Some (Lexical w)) None)
-lexical_if b d w {P} e = subst (λ d. Maybe (SameDeclaration P) (cond b (Some (Lexical w)) None) (cond d (Some (Lexical w)) None)) e (unless b _ _ (lexical w))
+lexical_if : {P : Pairing} (x : Name) (b d : Bool) (w : Bool) → b ≡ d → Maybe (SameDeclaration P x) (cond b (Some (Lexical w)) None) (cond d (Some (Lexical w)) None)
+lexical_if {P} x b d w e = subst (λ d. Maybe (SameDeclaration P x) (cond b (Some (Lexical w)) None) (cond d (Some (Lexical w)) None)) e (unless b _ _ (λ t. lexical w))
 
 lexical_fresh : (b w : Bool) → holds_function (cond b (Some (Lexical w)) None) ≡ false
 lexical_fresh true w = refl
@@ -210,14 +220,14 @@ data Firsts (N : Names) (mark : ℕ) (does : Evaluation) (ignores : Text → Boo
   a_first : {t u : Tree} {ts us : Forest} → View N mark does t u → Role (pairing N mark does ignores) t u → Firsts N mark does ignores (t ⊳ ts) (u ⊳ us)
 
 module _ {N : Names} {mark : ℕ} {does : Evaluation} {ignores : Text → Bool} where
-  firsts_declare : (x : Name) → N.dropped x ≡ false → {cs us : Forest} → Firsts N mark does ignores cs us → Maybe (SameDeclaration (pairing N mark does ignores)) (found x (first_declared cs)) (found x (first_declared us))
+  firsts_declare : (x : Name) → N.dropped x ≡ false → {cs us : Forest} → Firsts N mark does ignores cs us → Maybe (SameDeclaration (pairing N mark does ignores) x) (found x (first_declared cs)) (found x (first_declared us))
   firsts_declare x keeps no_first = neither
   firsts_declare x keeps (a_first {t = node l ss cs} {u = node m rs us} v r) =
-      subst (λ ps. Maybe (SameDeclaration (pairing N mark does ignores)) (found x ps) (found x (declared_by_label m rs us))) (sym (by_label l ss cs))
-      (subst (λ ps. Maybe (SameDeclaration (pairing N mark does ignores)) (found x (cond (is_export_declaration l) [] (declared_by (node l ss cs)))) (found x ps)) (sym (by_label m rs us))
+      subst (λ ps. Maybe (SameDeclaration (pairing N mark does ignores) x) (found x ps) (found x (declared_by_label m rs us))) (sym (by_label l ss cs))
+      (subst (λ ps. Maybe (SameDeclaration (pairing N mark does ignores) x) (found x (cond (is_export_declaration l) [] (declared_by (node l ss cs)))) (found x ps)) (sym (by_label m rs us))
       (one (is_export_declaration l) (is_export_declaration m) (same_label is_export_declaration false no_export_declaration v) _ _ (r.declares x keeps)))
     where
-      one : (b d : Bool) → b ≡ d → (ps qs : List Declared) → Maybe (SameDeclaration (pairing N mark does ignores)) (found x ps) (found x qs) → Maybe (SameDeclaration (pairing N mark does ignores)) (found x (cond b [] ps)) (found x (cond d [] qs))
+      one : (b d : Bool) → b ≡ d → (ps qs : List Declared) → Maybe (SameDeclaration (pairing N mark does ignores) x) (found x ps) (found x qs) → Maybe (SameDeclaration (pairing N mark does ignores) x) (found x (cond b [] ps)) (found x (cond d [] qs))
       one true true e ps qs h = neither
       one false false e ps qs h = h
       one true false e ps qs h = cc
@@ -231,14 +241,14 @@ module _ {N : Names} {mark : ℕ} {does : Evaluation} {ignores : Text → Bool} 
       one true h = refl
       one false h = h
 
-  plain_declares : (x : Name) (l : Label) {ss rs : List Span} {cs us : Forest} → N.dropped x ≡ false → rewrites_each l ≡ true → Firsts N mark does ignores cs us → Kept N mark does (node l ss cs) (node l rs us) → Maybe (SameDeclaration (pairing N mark does ignores)) (found x (declared_by (node l ss cs))) (found x (declared_by (node l rs us)))
-  plain_declares x (FnDecl y) keeps p f k = unless (same_name y x) _ _ (declared_function k)
-  plain_declares x (ExportDefaultFn o) keeps p f k = unless (same_name (name_or_default o) x) _ _ (declared_function k)
-  plain_declares x ExportDefaultExpr keeps p f k = unless (same_name default_name x) _ _ (lexical false)
+  plain_declares : (x : Name) (l : Label) {ss rs : List Span} {cs us : Forest} → N.dropped x ≡ false → rewrites_each l ≡ true → Firsts N mark does ignores cs us → Kept N mark does (node l ss cs) (node l rs us) → Maybe (SameDeclaration (pairing N mark does ignores) x) (found x (declared_by (node l ss cs))) (found x (declared_by (node l rs us)))
+  plain_declares x (FnDecl y) keeps p f k = unless (same_name y x) _ _ (λ e. declared_function k)
+  plain_declares x (ExportDefaultFn o) keeps p f k = unless (same_name (name_or_default o) x) _ _ (λ e. declared_function k)
+  plain_declares x ExportDefaultExpr keeps p f k = unless (same_name default_name x) _ _ (λ e. lexical false)
   plain_declares x (VarDecl kind) keeps p f k = absurd (false≢true p)
   plain_declares x ExportDecl {ss} {rs} {cs} {us} keeps p f k =
-      subst (λ ps. Maybe (SameDeclaration (pairing N mark does ignores)) (found x ps) (found x (declared_by (node ExportDecl rs us)))) (sym (export_declares ss cs))
-      (subst (λ ps. Maybe (SameDeclaration (pairing N mark does ignores)) (found x (first_declared cs)) (found x ps)) (sym (export_declares rs us)) (firsts_declare x keeps f))
+      subst (λ ps. Maybe (SameDeclaration (pairing N mark does ignores) x) (found x ps) (found x (declared_by (node ExportDecl rs us)))) (sym (export_declares ss cs))
+      (subst (λ ps. Maybe (SameDeclaration (pairing N mark does ignores) x) (found x (first_declared cs)) (found x ps)) (sym (export_declares rs us)) (firsts_declare x keeps f))
   plain_declares x _ keeps p f k = neither
 
   plain_role : (l : Label) {ss rs : List Span} {cs us : Forest} → rewrites_each l ≡ true → Clean N mark l → ListRole (pairing N mark does ignores) cs us → Firsts N mark does ignores cs us → Kept N mark does (node l ss cs) (node l rs us) → Role (pairing N mark does ignores) (node l ss cs) (node l rs us)
@@ -250,17 +260,37 @@ module _ {N : Names} {mark : ℕ} {does : Evaluation} {ignores : Text → Bool} 
     var_undefined = λ x g e. own_var N x l (holds_statements l) (vars_all cs) (clean_var N mark x g l c) (h.var_undefined x g) e;
   }
 
+  unseen_of : {f g : Tree} (y x : Name) → N.loose y ≡ true → same_name y x ≡ true → SameDeclaration (pairing N mark does ignores) x (Function f) (Function g)
+  unseen_of y x l e = unseen_function (ap N.loose (sym (same_name_eq y x e)) ∙ l)
+
+  -- a function of a name that nothing reads, and another
+  unseen_role : {y : Name} {m : Label} {ss rs : List Span} {cs us : Forest} → FunctionOf y m → N.loose y ≡ true → N.guarded y ≡ false → Role (pairing N mark does ignores) (node m ss cs) (node m rs us)
+  unseen_role {y} of_declaration l g = record {
+    declares = λ x keeps. unless (same_name y x) _ _ (unseen_of y x l);
+    copied = λ x keeps. refl;
+    vars = λ x keeps z. refl;
+    fresh = λ x e. no_function (same_name y x) _ (other_name N.guarded y x g e);
+    var_undefined = λ x e h. absurd (false≢true h);
+  }
+  unseen_role {y} of_default l g = record {
+    declares = λ x keeps. unless (same_name y x) _ _ (unseen_of y x l);
+    copied = λ x keeps. refl;
+    vars = λ x keeps z. refl;
+    fresh = λ x e. no_function (same_name y x) _ (other_name N.guarded y x g e);
+    var_undefined = λ x e h. absurd (false≢true h);
+  }
+
   list_role : (l : Label) {ss rs : List Span} {cs us : Forest} → is_block l ≡ true → ListRole (pairing N mark does ignores) cs us → Role (pairing N mark does ignores) (node l ss cs) (node l rs us)
   list_role Block p h = record { declares = λ x k. neither; copied = λ x k. refl; vars = h.vars; fresh = λ x g. refl; var_undefined = h.var_undefined }
   list_role Body p h = record { declares = λ x k. neither; copied = λ x k. refl; vars = λ x k z. refl; fresh = λ x g. refl; var_undefined = λ x g e. absurd (false≢true e) }
   list_role CaseBody p h = record { declares = λ x k. neither; copied = λ x k. refl; vars = h.vars; fresh = λ x g. refl; var_undefined = h.var_undefined }
   list_role _ p h = absurd (false≢true p)
 
-  lexicals_same : (w : Bool) {cs us : Forest} → SameDeclarators N cs us → (x : Name) → N.dropped x ≡ false → Maybe (SameDeclaration (pairing N mark does ignores)) (found x (as_lexicals w (declarator_names cs))) (found x (as_lexicals w (declarator_names us)))
+  lexicals_same : (w : Bool) {cs us : Forest} → SameDeclarators N cs us → (x : Name) → N.dropped x ≡ false → Maybe (SameDeclaration (pairing N mark does ignores) x) (found x (as_lexicals w (declarator_names cs))) (found x (as_lexicals w (declarator_names us)))
   lexicals_same w {cs} {us} d x keeps =
-      subst (λ o. Maybe (SameDeclaration (pairing N mark does ignores)) o (found x (as_lexicals w (declarator_names us)))) (sym (found_lexical x w (declarator_names cs)))
-      (subst (λ o. Maybe (SameDeclaration (pairing N mark does ignores)) (cond (has_name x (declarator_names cs)) (Some (Lexical w)) None) o) (sym (found_lexical x w (declarator_names us)))
-      (lexical_if _ _ w (d.at x keeps)))
+      subst (λ o. Maybe (SameDeclaration (pairing N mark does ignores) x) o (found x (as_lexicals w (declarator_names us)))) (sym (found_lexical x w (declarator_names cs)))
+      (subst (λ o. Maybe (SameDeclaration (pairing N mark does ignores) x) (cond (has_name x (declarator_names cs)) (Some (Lexical w)) None) o) (sym (found_lexical x w (declarator_names us)))
+      (lexical_if x _ _ w (d.at x keeps)))
 
   declarators_role : (k : VarDeclKind) {ss rs : List Span} {cs us : Forest} → SameDeclarators N cs us → ListRole (pairing N mark does ignores) cs us → Role (pairing N mark does ignores) (node (VarDecl k) ss cs) (node (VarDecl k) rs us)
   declarators_role Var d h = record { declares = λ x k. neither; copied = λ x k. refl; vars = h.vars; fresh = λ x g. refl; var_undefined = h.var_undefined }
@@ -270,7 +300,7 @@ module _ {N : Names} {mark : ℕ} {does : Evaluation} {ignores : Text → Bool} 
   before_role : {t u w : Tree} → Fits N t u → Role (pairing N mark does ignores) u w → Role (pairing N mark does ignores) t w
   before_role unchanged h = h
   before_role {w = w} (changed p q s) h = record {
-    declares = λ x keeps. subst (λ o. Maybe (SameDeclaration (pairing N mark does ignores)) o (found x (declared_by w))) (sym (s.declares x keeps)) (h.declares x keeps);
+    declares = λ x keeps. subst (λ o. Maybe (SameDeclaration (pairing N mark does ignores) x) o (found x (declared_by w))) (sym (s.declares x keeps)) (h.declares x keeps);
     copied = λ x keeps. s.copied x keeps ∙ h.copied x keeps;
     vars = λ x keeps z. s.vars x keeps z ∙ h.vars x keeps z;
     fresh = λ x g. s.functions x g (h.fresh x g);
@@ -280,7 +310,7 @@ module _ {N : Names} {mark : ℕ} {does : Evaluation} {ignores : Text → Bool} 
   after_role : {t v w : Tree} → Role (pairing N mark does ignores) t v → Fits N v w → Role (pairing N mark does ignores) t w
   after_role h unchanged = h
   after_role {t} h (changed p q s) = record {
-    declares = λ x keeps. subst (λ o. Maybe (SameDeclaration (pairing N mark does ignores)) (found x (declared_by t)) o) (s.declares x keeps) (h.declares x keeps);
+    declares = λ x keeps. subst (λ o. Maybe (SameDeclaration (pairing N mark does ignores) x) (found x (declared_by t)) o) (s.declares x keeps) (h.declares x keeps);
     copied = λ x keeps. h.copied x keeps ∙ s.copied x keeps;
     vars = λ x keeps z. h.vars x keeps z ∙ s.vars x keeps z;
     fresh = h.fresh;
@@ -303,8 +333,8 @@ module _ {N : Names} {mark : ℕ} {does : Evaluation} {ignores : Text → Bool} 
   cons_role : {t u : Tree} {ts us : Forest} → Role (pairing N mark does ignores) t u → ListRole (pairing N mark does ignores) ts us → ListRole (pairing N mark does ignores) (t ⊳ ts) (u ⊳ us)
   cons_role {t} {u} {ts} {us} h hs = record {
     declares = λ x keeps.
-        subst (λ o. Maybe (SameDeclaration (pairing N mark does ignores)) o (found x (declared (u ⊳ us)))) (sym (found_cons x t ts))
-        (subst (λ o. Maybe (SameDeclaration (pairing N mark does ignores)) (or_else (found x (declared_by t)) (found x (declared ts))) o) (sym (found_cons x u us))
+        subst (λ o. Maybe (SameDeclaration (pairing N mark does ignores) x) o (found x (declared (u ⊳ us)))) (sym (found_cons x t ts))
+        (subst (λ o. Maybe (SameDeclaration (pairing N mark does ignores) x) (or_else (found x (declared_by t)) (found x (declared ts))) o) (sym (found_cons x u us))
         (or_else_sim (h.declares x keeps) (hs.declares x keeps)));
     vars = λ x keeps z. has_cons x t ts ∙ ap₂ ◌||◌ (h.vars x keeps z) (hs.vars x keeps z) ∙ sym (has_cons x u us);
     fresh = λ x g. ap holds_function (found_cons x t ts) ∙ or_else_fresh (found x (declared_by t)) (found x (declared ts)) (h.fresh x g) (hs.fresh x g);
@@ -323,7 +353,7 @@ module _ {N : Names} {mark : ℕ} {does : Evaluation} {ignores : Text → Bool} 
   drop_role : {t : Tree} {ts us : Forest} → DeclaresNone N t → ListRole (pairing N mark does ignores) ts us → ListRole (pairing N mark does ignores) (t ⊳ ts) us
   drop_role {t} {ts} {us} d hs = record {
     declares = λ x keeps.
-        subst (λ o. Maybe (SameDeclaration (pairing N mark does ignores)) o (found x (declared us))) (sym (found_cons x t ts ∙ ap (λ o. or_else o (found x (declared ts))) (is_none x (declared_by t) (d.declares x keeps)))) (hs.declares x keeps);
+        subst (λ o. Maybe (SameDeclaration (pairing N mark does ignores) x) o (found x (declared us))) (sym (found_cons x t ts ∙ ap (λ o. or_else o (found x (declared ts))) (is_none x (declared_by t) (d.declares x keeps)))) (hs.declares x keeps);
     vars = λ x keeps z. has_cons x t ts ∙ ap (λ b. b || has_name x (vars_all ts)) (d.vars x (is_firm keeps z)) ∙ hs.vars x keeps z;
     fresh = λ x g. ap holds_function (found_cons x t ts) ∙ or_else_fresh (found x (declared_by t)) (found x (declared ts)) (d.functions x g) (hs.fresh x g);
     var_undefined = λ x g e. hs.var_undefined x g (sym (has_cons x t ts ∙ ap (λ b. b || has_name x (vars_all ts)) (d.vars x (is_known g))) ∙ e);
@@ -332,7 +362,7 @@ module _ {N : Names} {mark : ℕ} {does : Evaluation} {ignores : Text → Bool} 
   drop_after_role : {t u : Tree} {ts us : Forest} → Role (pairing N mark does ignores) t u → DeclaresNone N u → ListRole (pairing N mark does ignores) ts us → ListRole (pairing N mark does ignores) (t ⊳ ts) us
   drop_after_role {t} {u} {ts} {us} h d hs =
       record {
-        declares = λ x keeps. subst (λ o. Maybe (SameDeclaration (pairing N mark does ignores)) (found x (declared (t ⊳ ts))) o) (found_cons x u us ∙ ap (λ o. or_else o (found x (declared us))) (is_none x (declared_by u) (d.declares x keeps))) ((cons_role h hs).declares x keeps);
+        declares = λ x keeps. subst (λ o. Maybe (SameDeclaration (pairing N mark does ignores) x) (found x (declared (t ⊳ ts))) o) (found_cons x u us ∙ ap (λ o. or_else o (found x (declared us))) (is_none x (declared_by u) (d.declares x keeps))) ((cons_role h hs).declares x keeps);
         vars = λ x keeps z. has_cons x t ts ∙ ap₂ ◌||◌ (h.vars x keeps z ∙ d.vars x (is_firm keeps z)) (hs.vars x keeps z);
         fresh = (cons_role h hs).fresh;
         var_undefined = (cons_role h hs).var_undefined;
@@ -341,8 +371,8 @@ module _ {N : Names} {mark : ℕ} {does : Evaluation} {ignores : Text → Bool} 
   between : {ts us vs ws : Forest} → SameLists N ts us → ListRole (pairing N mark does ignores) us vs → SameLists N vs ws → ListRole (pairing N mark does ignores) ts ws
   between {ts} {vs = vs} f h g = record {
     declares = λ x keeps.
-        subst (λ o. Maybe (SameDeclaration (pairing N mark does ignores)) (found x (declared ts)) o) (g.declares x keeps)
-        (subst (λ o. Maybe (SameDeclaration (pairing N mark does ignores)) o (found x (declared vs))) (sym (f.declares x keeps)) (h.declares x keeps));
+        subst (λ o. Maybe (SameDeclaration (pairing N mark does ignores) x) (found x (declared ts)) o) (g.declares x keeps)
+        (subst (λ o. Maybe (SameDeclaration (pairing N mark does ignores) x) o (found x (declared vs))) (sym (f.declares x keeps)) (h.declares x keeps));
     vars = λ x keeps z. f.vars x keeps z ∙ h.vars x keeps z ∙ g.vars x keeps z;
     fresh = λ x g. f.functions x g (h.fresh x g);
     var_undefined = λ x g e. h.var_undefined x g (f.guarded_vars x g e);
@@ -360,8 +390,12 @@ module _ {N : Names} {mark : ℕ} {does : Evaluation} {ignores : Text → Bool} 
     kept_role (kept_switch q r k a e i h) = switch_role i (cons_role (rewrites_role r) (all_role h))
     kept_role (drop_own q d g sc h) = record { declares = λ x keeps. neither; copied = λ x keeps. refl; vars = λ x keeps z. refl; fresh = λ x g. refl; var_undefined = λ x g e. absurd (false≢true e) }
 
+    either_role : {t u : Tree} → KeptOrUnseen N mark does t u → Role (pairing N mark does ignores) t u
+    either_role (as_kept k) = kept_role k
+    either_role (unseen d q l g) = unseen_role d l g
+
     pub rewrites_role : {t u : Tree} → Rewrites N mark does t u → Role (pairing N mark does ignores) t u
-    rewrites_role (step a f k e g) = after_role (before_role f (kept_role k)) g
+    rewrites_role (step a f k e g) = after_role (before_role f (either_role k)) g
 
     pub all_role : {b : Bool} {ts us : Forest} → All N mark does b ts us → ListRole (pairing N mark does ignores) ts us
     all_role nil = nil_role

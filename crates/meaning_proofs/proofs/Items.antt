@@ -9,10 +9,10 @@ use Rattle.swc_ast.specs.Scope.{has_name, imported_name, specifier_names, import
 use Rattle.swc_ast.specs.Run.{World, import_of, specifiers_of, item_imports, imports_at, item_exports, exported}
 use Rattle.meaning_proofs.specs.Names.{Names, Watched}
 use Rattle.meaning_proofs.specs.Exact.{Evaluation}
-use Rattle.meaning_proofs.specs.Roles.{rewrites_each, is_item, is_export}
+use Rattle.meaning_proofs.specs.Roles.{rewrites_each, is_item, is_export, of_declaration, of_default}
 use Rattle.meaning_proofs.specs.Rewrites.{SameExports, Specifiers, no_more, keep, skip, Kept, kept, kept_list, kept_declarators, kept_import, kept_known, kept_unset, kept_default, kept_switch, drop_own, All, nil, cons, drop, drop_rewritten, stop, Unreached, end, stay, leave}
 use Rattle.meaning_proofs.proofs.Names.{same_name_turned}
-use Rattle.meaning_proofs.proofs.Declared.{View, part, other, view, same_label}
+use Rattle.meaning_proofs.proofs.Declared.{View, part, a_function, other, view, same_label}
 use Rattle.meaning_proofs.proofs.Finds.{has_append}
 use Rattle.meaning_proofs.proofs.Imports.{SameImports, no_imports, one_import, no_import, no_imports_of, no_exports_of, item_exports_none, part_exports_none, part_imports_none}
 
@@ -103,6 +103,8 @@ module _ {N : Names} {mark : ℕ} {does : Evaluation} where
 
   one_item : (w : World) (k : ℕ) (l m : Label) {ss rs : List Span} {cs us : Forest} → View N mark does (node l ss cs) (node m rs us) → {ps qs : List (Name × Value)} → SameImports N ps qs → SameImports N (item_imports w k l cs ++ ps) (item_imports w k m us ++ qs)
   one_item w k l m (part r e) h = kept_imports w k r h
+  one_item w k l m (a_function of_declaration) h = h
+  one_item w k l m (a_function of_default) h = h
   one_item w k l m {cs = cs} {us} (other p q) h = none_both (no_imports_of w k l cs (part_imports_none l p)) (no_imports_of w k m us (part_imports_none m q)) h
 
   no_item : (l m : Label) {ss rs : List Span} {cs us : Forest} → View N mark does (node l ss cs) (node m rs us) → is_item m ≡ false → is_item l ≡ false
@@ -133,6 +135,8 @@ module _ {N : Names} {mark : ℕ} {does : Evaluation} where
 
   one_export : (l m : Label) {ss rs : List Span} {cs us : Forest} → View N mark does (node l ss cs) (node m rs us) → item_exports l cs ≡ item_exports m us
   one_export l m (part r e) = kept_exports r
+  one_export l m (a_function of_declaration) = refl
+  one_export l m (a_function of_default) = refl
   one_export l m {cs = cs} {us} (other p q) = no_exports_of l cs (part_exports_none l p) ∙ sym (no_exports_of m us (part_exports_none m q))
 
   unreached_exports : {ts us : Forest} → Unreached N mark does ts us → exported ts ≡ exported us

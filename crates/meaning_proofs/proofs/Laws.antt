@@ -7,7 +7,7 @@ use Rattle.swc_ast.specs.Call.{each_of, call_at}
 use Rattle.meaning_proofs.specs.Names.{Names}
 use Rattle.meaning_proofs.specs.Exact.{Evaluation, run_at, list_at, Refined, Exact, ListExact, AlikeCells, none_alike, one_alike, one_any, Apart, Off, Trimmed, same_value, same_jump, left_core, was_cut, Trims, ListTrims}
 use Rattle.meaning_proofs.specs.Roles.{SameNames, Fits, unchanged, changed, SameLists}
-use Rattle.meaning_proofs.specs.Rewrites.{Kept, Rewrites, step, All, Listed, listed}
+use Rattle.meaning_proofs.specs.Rewrites.{Kept, KeptOrUnseen, as_kept, Rewrites, step, All, Listed, listed}
 
 -- outcomes
 
@@ -160,8 +160,11 @@ module _ {N : Names} where
 -- rewrites
 
 module _ {N : Names} {mark : ℕ} {does : Evaluation} where
+  pub only_either : {t u : Tree} → KeptOrUnseen N mark does t u → Rewrites N mark does t u
+  only_either {t} {u} k = step (trims_itself t) unchanged k (exact_itself mark u) unchanged
+
   pub only_kept : {t u : Tree} → Kept N mark does t u → Rewrites N mark does t u
-  only_kept {t} {u} k = step (trims_itself t) unchanged k (exact_itself mark u) unchanged
+  only_kept k = only_either (as_kept k)
 
   -- a step before a rewrite
   pub first : {t u w : Tree} → Trims N does t u → Fits N t u → Rewrites N mark does u w → Rewrites N mark does t w

@@ -12,11 +12,11 @@ use Rattle.swc_ast.specs.Run.{sources, once, exported, Same}
 use Rattle.meaning_proofs.specs.Names.{Names, Exported, stays}
 use Rattle.meaning_proofs.specs.Sameness.{heeded, ignoring}
 use Rattle.meaning_proofs.specs.Exact.{CasesTrim, Discriminant, GivesUndefined, Yields}
-use Rattle.meaning_proofs.specs.Roles.{Clean, SameBody, SameScope, SameSlack, SameVars, Scoped, rewrites_each}
-use Rattle.meaning_proofs.specs.Rewrites.{SameExports, is_exported, Specifiers, kept, kept_list, kept_declarators, kept_import, kept_known, kept_unset, kept_default, kept_switch, drop_own, Rewrites, All, Listed, modules, scripts}
+use Rattle.meaning_proofs.specs.Roles.{FunctionOf, Clean, SameBody, SameScope, SameSlack, SameVars, Scoped, rewrites_each}
+use Rattle.meaning_proofs.specs.Rewrites.{SameExports, is_exported, Specifiers, kept, kept_list, kept_declarators, kept_import, kept_known, kept_unset, kept_default, kept_switch, drop_own, unseen, Rewrites, All, Listed, modules, scripts}
 use Rattle.meaning_proofs.proofs.Names.{same_name_eq}
 use Rattle.meaning_proofs.proofs.Trees.{eval_unfolds}
-use Rattle.meaning_proofs.proofs.Laws.{only_kept, list_trims_itself, same_lists_itself, list_exact_itself}
+use Rattle.meaning_proofs.proofs.Laws.{only_either, only_kept, list_trims_itself, same_lists_itself, list_exact_itself}
 use Rattle.meaning_proofs.proofs.Runs.{same}
 
 -- where no name is declared at fewer places
@@ -85,6 +85,10 @@ module _ {N : Names} {mark : ℕ} where
   -- a function that loses its own name
   pub unnamed : (x : Name) (ss rs : List Span) {cs us : Forest} → N.dropped x ≡ true → N.guarded x ≡ false → SameBody N cs us → All N mark (eval mark) false cs us → Rewrites N mark (eval mark) (node (Fn (Some x)) ss cs) (node (Fn None) rs us)
   unnamed x ss rs {cs} d g sc h = only_kept (drop_own (eval_unfolds mark (node (Fn (Some x)) ss cs)) d g sc h)
+
+  -- a function of a name that nothing reads: its body never runs
+  pub other_function : {x : Name} (l : Label) (ss rs : List Span) {cs us : Forest} → FunctionOf x l → N.loose x ≡ true → N.guarded x ≡ false → Rewrites N mark (eval mark) (node l ss cs) (node l rs us)
+  other_function l ss rs {cs} d e g = only_either (unseen d (eval_unfolds mark (node l ss cs)) e g)
 
   -- a whole module, rewritten item by item
   pub module_same : (loads : Bool) (ss rs : List Span) {ts us : Forest} → All N mark (eval mark) true ts us → ((x : Name) → is_exported x (exported ts) ≡ true → Exported N x)

@@ -91,7 +91,8 @@ Ran P RA m n = (s t : State) → S P s t → Sim P RA (m s) (n t)
 pub record M (P : Pairing) (m n : Meaning) : Type 0 where
   pub at : (c d : Context) → C P c d → Ran P (V P) (m c) (n d)
 
--- what two lists declare of a name
-pub data SameDeclaration (P : Pairing) : Declaration → Declaration → Type 0 where
-  lexical : (w : Bool) → SameDeclaration P (Lexical w) (Lexical w)
-  declared_function : {f g : Tree} → P.Keeps f g → SameDeclaration P (DeclaredFunction f) (DeclaredFunction g)
+-- what two lists declare of a name; of a loose one, any functions
+pub data SameDeclaration (P : Pairing) (x : Name) : Declaration → Declaration → Type 0 where
+  lexical : (w : Bool) → SameDeclaration P x (Lexical w) (Lexical w)
+  declared_function : {f g : Tree} → P.Keeps f g → SameDeclaration P x (DeclaredFunction f) (DeclaredFunction g)
+  unseen_function : {f g : Tree} → P.loose x ≡ true → SameDeclaration P x (DeclaredFunction f) (DeclaredFunction g)

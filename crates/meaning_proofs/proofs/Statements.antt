@@ -9,7 +9,7 @@ use Rattle.swc_ast.specs.Scope.{Declaration, Lexical, Function as DeclaredFuncti
 use Rattle.swc_ast.specs.Meaning.{cell_of, copies, cell_of_declared, in_list_scope, Case, cases_of, bodies_from, default_bodies, chosen, selected, switch, catch_cell, is_param, handled, with_state, resume, finally, try_catch, declare, head_names, copied_names, for_loop}
 use Rattle.meaning_proofs.specs.Names.{Names, empty, Guarded, no_cell, a_cell}
 use Rattle.meaning_proofs.specs.Roles.{holds_function, Free, free_name}
-use Rattle.meaning_proofs.proofs.Relation.{Pairing, Each, none, more, Maybe, neither, both, SameEnv, V, undefined, function, same_held, SameCell, alike, S, C, broken, continued, returned, thrown, Sim, done, jump, outside, cut, Ran, M, SameDeclaration, lexical, declared_function}
+use Rattle.meaning_proofs.proofs.Relation.{Pairing, Each, none, more, Maybe, neither, both, SameEnv, V, undefined, function, same_held, any_held, SameCell, alike, S, C, broken, continued, returned, thrown, Sim, done, jump, outside, cut, Ran, M, SameDeclaration, lexical, declared_function, unseen_function}
 use Rattle.meaning_proofs.proofs.Names.{other_name}
 use Rattle.meaning_proofs.proofs.Combine.{gives_sim, in_core_sim, bind}
 use Rattle.meaning_proofs.proofs.Prims.{same_strict}
@@ -20,12 +20,12 @@ use Rattle.meaning_proofs.proofs.Loops.{turns_sim, at_break_sim}
 
 -- what two lists of statements declare agrees on each name that is kept; no function has a guarded name
 pub record SameList (P : Pairing) (ts us : Forest) : Type 0 where
-  pub declares : (x : Name) → P.dropped x ≡ false → Maybe (SameDeclaration P) (found x (declared ts)) (found x (declared us))
+  pub declares : (x : Name) → P.dropped x ≡ false → Maybe (SameDeclaration P x) (found x (declared ts)) (found x (declared us))
   pub fresh : (x : Name) → P.guarded x ≡ true → holds_function (found x (declared ts)) ≡ false
 
 -- what two heads of `for` declare
 pub record SameHead (P : Pairing) (t u : Tree) : Type 0 where
-  pub names : (x : Name) → P.dropped x ≡ false → Maybe (SameDeclaration P) (found x (head_names t)) (found x (head_names u))
+  pub names : (x : Name) → P.dropped x ≡ false → Maybe (SameDeclaration P x) (found x (head_names t)) (found x (head_names u))
   pub copied : (x : Name) → P.dropped x ≡ false → is_found x (copied_names t) ≡ is_found x (copied_names u)
   pub fresh : (x : Name) → P.guarded x ≡ true → holds_function (found x (head_names t)) ≡ false
 
@@ -81,10 +81,11 @@ FreeParam N (Some o) = Free N o
 module _ {P : Pairing} where
   -- lists
 
-  pub declared_cell_sim : {x : Name} {e f : Env} {v w : Value} {o p : Option Declaration} → SameEnv P e f → V P v w → Maybe (SameDeclaration P) o p → Maybe (SameCell P x) (cell_of_declared e v o) (cell_of_declared f w p)
+  pub declared_cell_sim : {x : Name} {e f : Env} {v w : Value} {o p : Option Declaration} → SameEnv P e f → V P v w → Maybe (SameDeclaration P x) o p → Maybe (SameCell P x) (cell_of_declared e v o) (cell_of_declared f w p)
   declared_cell_sim he r neither = neither
   declared_cell_sim he r (both (lexical w)) = both (alike refl neither)
   declared_cell_sim he r (both (declared_function k)) = both (alike refl (both (same_held (function k he r))))
+  declared_cell_sim he r (both (unseen_function l)) = both (alike refl (both (any_held l)))
 
   pub in_list_scope_sim : {ts us : Forest} → SameList P ts us → {m n : Meaning} → M P m n → M P (in_list_scope ts m) (in_list_scope us n)
   unfolding in_list_scope

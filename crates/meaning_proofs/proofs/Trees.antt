@@ -12,8 +12,8 @@ use Rattle.swc_ast.specs.Meaning.{Caller, act, eval, evals, run_all, switch, dec
 use Rattle.swc_ast.specs.Call.{each_of, call_at}
 use Rattle.meaning_proofs.specs.Names.{Names}
 use Rattle.meaning_proofs.specs.Exact.{Evaluation, run_at, list_at, Idle, IdleAfter, Among, Discriminant, any_value, one_value, CasesTrim, Stops}
-use Rattle.meaning_proofs.specs.Roles.{SameScope, is_part, rewrites_each, holds_function, Clean, Unfolds}
-use Rattle.meaning_proofs.specs.Rewrites.{Kept, kept, kept_list, kept_declarators, kept_import, kept_known, kept_unset, kept_default, kept_switch, drop_own, Rewrites, step, All, nil, cons, drop, drop_rewritten, stop, Listed, listed}
+use Rattle.meaning_proofs.specs.Roles.{SameScope, is_part, rewrites_each, holds_function, FunctionOf, of_declaration, of_default, Clean, Unfolds}
+use Rattle.meaning_proofs.specs.Rewrites.{Kept, kept, kept_list, kept_declarators, kept_import, kept_known, kept_unset, kept_default, kept_switch, drop_own, KeptOrUnseen, as_kept, unseen, Rewrites, step, All, nil, cons, drop, drop_rewritten, stop, Listed, listed}
 use Rattle.meaning_proofs.proofs.Relation.{Pairing, Each, none, more, Maybe, neither, V, undefined, function, C, Ran, M, SameDeclaration}
 use Rattle.meaning_proofs.proofs.Combine.{gives_sim, leaves_sim, bind}
 use Rattle.meaning_proofs.proofs.Stores.{fits, initialise_sim}
@@ -22,7 +22,7 @@ use Rattle.meaning_proofs.proofs.Statements.{SameList, SameHead, cases_sim, defa
 use Rattle.meaning_proofs.proofs.Loops.{at_break_sim}
 use Rattle.meaning_proofs.proofs.Acts.{Side, act_sim}
 use Rattle.meaning_proofs.proofs.Finds.{or_else, or_else_sim, found_joined}
-use Rattle.meaning_proofs.proofs.Declared.{pairing, Role, ListRole, View, part, other, view, rewrites_role, listed_role, or_else_fresh}
+use Rattle.meaning_proofs.proofs.Declared.{pairing, Role, ListRole, View, part, a_function, other, view, rewrites_role, listed_role, or_else_fresh}
 use Rattle.meaning_proofs.proofs.Steps.{Known, refined_sim, trimmed_sim, idle_sim, idle_after_sim, stopped_sim, weaker_sim, known_sim}
 
 -- the plain evaluation does what labels say
@@ -52,8 +52,8 @@ module _ {P : Pairing} where
   joined_list : (cs us ts ws : Forest) → SameList P cs us → SameList P ts ws → SameList P (joined cs ts) (joined us ws)
   joined_list cs us ts ws h g = record {
     declares = λ x keeps.
-        subst (λ o. Maybe (SameDeclaration P) o (found x (declared (joined us ws)))) (sym (found_joined x cs ts))
-        (subst (λ o. Maybe (SameDeclaration P) (or_else (found x (declared cs)) (found x (declared ts))) o) (sym (found_joined x us ws))
+        subst (λ o. Maybe (SameDeclaration P x) o (found x (declared (joined us ws)))) (sym (found_joined x cs ts))
+        (subst (λ o. Maybe (SameDeclaration P x) (or_else (found x (declared cs)) (found x (declared ts))) o) (sym (found_joined x us ws))
         (or_else_sim (h.declares x keeps) (g.declares x keeps)));
     fresh = λ x e. ap holds_function (found_joined x cs ts) ∙ or_else_fresh (found x (declared cs)) (found x (declared ts)) (h.fresh x e) (g.fresh x e);
   }
@@ -61,8 +61,8 @@ module _ {P : Pairing} where
   same_head : {t u : Tree} → Role P t u → SameHead P t u
   same_head {t} {u} h = record {
     names = λ x keeps.
-        subst (λ ps. Maybe (SameDeclaration P) (found x ps) (found x (head_names u))) (sym (append-nil (declared_by t)))
-        (subst (λ ps. Maybe (SameDeclaration P) (found x (declared_by t)) (found x ps)) (sym (append-nil (declared_by u))) (h.declares x keeps));
+        subst (λ ps. Maybe (SameDeclaration P x) (found x ps) (found x (head_names u))) (sym (append-nil (declared_by t)))
+        (subst (λ ps. Maybe (SameDeclaration P x) (found x (declared_by t)) (found x ps)) (sym (append-nil (declared_by u))) (h.declares x keeps));
     copied = h.copied;
     fresh = λ x g. ap (λ ps. holds_function (found x ps)) (append-nil (declared_by t)) ∙ h.fresh x g;
   }
@@ -75,6 +75,11 @@ module _ {N : Names} {mark : ℕ} {does : Evaluation} {ignores : Text → Bool} 
   one_case : (l m : Label) {ss rs : List Span} {cs us : Forest} → View N mark does (node l ss cs) (node m rs us) → SameList (pairing N mark does ignores) (body_statements l cs) (body_statements m us)
   one_case l m {cs = cs} {us} (other p q) =
       subst (λ ts. SameList (pairing N mark does ignores) ts (body_statements m us)) (sym (no_statements l cs p)) (subst (λ ts. SameList (pairing N mark does ignores) ε ts) (sym (no_statements m us q)) empty_list)
+  one_case l m {cs = cs} {us} (a_function d) = of_function d cs us
+    where
+      of_function : {x : Name} {l : Label} → FunctionOf x l → (cs us : Forest) → SameList (pairing N mark does ignores) (body_statements l cs) (body_statements l us)
+      of_function of_declaration cs us = empty_list
+      of_function of_default cs us = empty_list
   one_case l m (part k e) = of_kept k
     where
       plain_case : (l : Label) (cs us : Forest) → rewrites_each l ≡ true → SameList (pairing N mark does ignores) (body_statements l cs) (body_statements l us)
@@ -129,7 +134,7 @@ module _ {N : Names} {mark : ℕ} {does : Evaluation} (ignores : Text → Bool) 
 module _ {N : Names} {mark : ℕ} {does : Evaluation} {ignores : Text → Bool} where
   scope_list : {ts us vs : Forest} → SameScope N ts us → SameList (pairing N mark does ignores) us vs → SameList (pairing N mark does ignores) ts vs
   scope_list {vs = vs} e h = record {
-    declares = λ x keeps. subst (λ o. Maybe (SameDeclaration (pairing N mark does ignores)) o (found x (declared vs))) (sym (e.declares x keeps)) (h.declares x keeps);
+    declares = λ x keeps. subst (λ o. Maybe (SameDeclaration (pairing N mark does ignores) x) o (found x (declared vs))) (sym (e.declares x keeps)) (h.declares x keeps);
     fresh = λ x g. e.functions x g (h.fresh x g);
   }
 
@@ -216,6 +221,11 @@ module _ {N : Names} {mark : ℕ} {does : Evaluation} {ignores : Text → Bool} 
     unfolding act
     own_sim k = record { at = λ c c' hc. gives_sim (function k hc.env undefined) }
 
+    unseen_sim : {x : Name} {l : Label} → FunctionOf x l → (ss rs : List Span) (cs us : Forest) (ms ns : List Meaning) → M (pairing N mark does ignores) (act mark n (call_at (does n) d) l ss cs ms) (act mark n (call_at (eval mark n) d) l rs us ns)
+    unfolding act
+    unseen_sim of_declaration ss rs cs us ms ns = record { at = λ c c' hc. gives_sim undefined }
+    unseen_sim of_default ss rs cs us ms ns = record { at = λ c c' hc. gives_sim undefined }
+
     mutual
       pub kept_sim : {t u : Tree} → Kept N mark does t u → M (pairing N mark does ignores) (run_at does n d t) (run_at (eval mark) n d u)
       kept_sim (kept l p q c o sc h) = node_sim _ q (act_sim mark n hk l _ _ _ _ (side_of ignores l p c h (kept l p q c o sc h)) (all_sim h))
@@ -228,8 +238,12 @@ module _ {N : Names} {mark : ℕ} {does : Evaluation} {ignores : Text → Bool} 
       kept_sim (kept_switch {ds} {es} {ss} {rs} {cs = cs} {us = us} q r k a e i h) = node_sim _ q (cases_trim_sim ds es ss rs cs us (rewrites_sim r) k a (scope_list e (statements_same (cons r h))) (all_sim h))
       kept_sim (drop_own q e g sc h) = node_sim _ q (own_sim (drop_own q e g sc h))
 
+      either_sim : {t u : Tree} → KeptOrUnseen N mark does t u → M (pairing N mark does ignores) (run_at does n d t) (run_at (eval mark) n d u)
+      either_sim (as_kept k) = kept_sim k
+      either_sim (unseen {ss = ss} {rs} {cs} {us} h q l g) = node_sim _ q (unseen_sim h ss rs cs us _ _)
+
       pub rewrites_sim : {t u : Tree} → Rewrites N mark does t u → M (pairing N mark does ignores) (run_at does n d t) (run_at (eval mark) n d u)
-      rewrites_sim (step a f k e g) = record { at = λ c c' hc s t hs. refined_sim (trimmed_sim (a.by n d c s hs.guards) ((kept_sim k).at c c' hc s t hs)) ((e.by n d c').by t) }
+      rewrites_sim (step a f k e g) = record { at = λ c c' hc s t hs. refined_sim (trimmed_sim (a.by n d c s hs.guards) ((either_sim k).at c c' hc s t hs)) ((e.by n d c').by t) }
 
       pub all_sim : {ts us : Forest} → All N mark does false ts us → Each (M (pairing N mark does ignores)) (each_of (run_at does n d) ts) (each_of (run_at (eval mark) n d) us)
       all_sim nil = none

@@ -11,7 +11,7 @@ use Rattle.swc_ast.specs.Run.{sources, once, exported, item_exports, specifier_e
 use Rattle.meaning_proofs.specs.Names.{Names, Watched, Exported}
 use Rattle.meaning_proofs.specs.Exact.{Evaluation, Exact, ListExact, Trims, ListTrims, Idle, IdleAfter, Yields, GivesUndefined, Discriminant, CasesTrim, Stops}
 use Rattle.meaning_proofs.specs.Sameness.{heeded}
-use Rattle.meaning_proofs.specs.Roles.{is_item, rewrites_each, Clean, Unfolds, Fits, SameLists, SameScope, SameVars, DeclaresNone, SameBody, SameSlack, Scoped, module_items}
+use Rattle.meaning_proofs.specs.Roles.{is_item, rewrites_each, Clean, Unfolds, Fits, SameLists, SameScope, SameVars, DeclaresNone, FunctionOf, SameBody, SameSlack, Scoped, module_items}
 
 -- an export stands for the same names
 abbrev pub SameExports : Label → Forest → Forest → Type 0
@@ -50,8 +50,13 @@ module _ (N : Names) (mark : ℕ) (does : Evaluation) where
       -- a function without its own name
       drop_own : {x : Name} {ss rs : List Span} {cs us : Forest} → Unfolds mark does (node (Fn (Some x)) ss cs) → N.dropped x ≡ true → N.guarded x ≡ false → SameBody N cs us → All false cs us → Kept (node (Fn (Some x)) ss cs) (node (Fn None) rs us)
 
+    -- what becomes of a node: it is kept, or a function of a name that nothing reads becomes another, as its body never runs
+    pub data KeptOrUnseen : Tree → Tree → Type 0 where
+      as_kept : {t u : Tree} → Kept t u → KeptOrUnseen t u
+      unseen : {x : Name} {l : Label} {ss rs : List Span} {cs us : Forest} → FunctionOf x l → Unfolds mark does (node l ss cs) → N.loose x ≡ true → N.guarded x ≡ false → KeptOrUnseen (node l ss cs) (node l rs us)
+
     pub data Rewrites : Tree → Tree → Type 0 where
-      step : {t u v w : Tree} → Trims N does t u → Fits N t u → Kept u v → Exact mark v w → Fits N v w → Rewrites t w
+      step : {t u v w : Tree} → Trims N does t u → Fits N t u → KeptOrUnseen u v → Exact mark v w → Fits N v w → Rewrites t w
 
     -- one by one; where some may go, those go that do nothing and declare none but dropped names, and behind one that never
     -- ends normally those that declare none but dropped names

@@ -104,6 +104,11 @@ pub record DeclaresNone (N : Names) (t : Tree) : Type 0 where
   pub is_no_declarator : (x : Name) → N.dropped x ≡ false → has_name x (declarator_name (label_of t)) ≡ false
   pub is_no_import : (x : Name) → Watched N x → has_name x (import_names_of (label_of t) (children_of t)) ≡ false
 
+-- a declaration of a function of a name
+pub data FunctionOf (x : Name) : Label → Type 0 where
+  of_declaration : FunctionOf x (FnDecl x)
+  of_default : FunctionOf x (ExportDefaultFn (Some x))
+
 -- a binding that is not guarded
 pub data Free (N : Names) : Option Name → Type 0 where
   no_name : Free N None

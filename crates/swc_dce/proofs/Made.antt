@@ -13,7 +13,7 @@ use Rattle.static_proofs.proofs.ShapedViews.{module_shaped, script_shaped}
 use Rattle.swc_utils.specs.Globals.{unresolved}
 use Rattle.tree_walk.specs.Walks.{Whole}
 use Rattle.dce_rules.specs.Shakes.{shake_pass}
-use Rattle.dce_rules.specs.Uses.{declared_in, read_in, is_used_unnamed, free_to_go}
+use Rattle.dce_rules.specs.Uses.{declared_in, read_outside, is_used_unnamed, free_to_go}
 use Rattle.dce_uses.specs.Tables.{Tells}
 use Rattle.dce_uses.specs.declared.uses.Uses.{Uses}
 use Rattle.dce_code.specs.Knowledge.{shaker}
@@ -37,7 +37,7 @@ module _ (k : Known) (mark : Mark) (c : Config) (u : Uses) (uses : k.uses.now �
         imports = drops;
         knows = record {
           free_are = λ x h. sym (may_go t x) ∙ free_is k t tells' x h;
-          unread_are = λ x h. ap (λ b. declared_in x t && not (b || (read_in x t || is_used_unnamed x t))) (sym (kept x.text)) ∙ unread_is k t tells' x h;
+          unread_are = λ x h. ap (λ b. declared_in x t && not (b || (read_outside x t || is_used_unnamed x t))) (sym (kept x.text)) ∙ unread_is k t tells' x h;
           unread_bound = unread_bound k;
         };
         all_go = λ e x h. all_go k t tells' (top ∙ e) x ∙ may_go t x ∙ h;

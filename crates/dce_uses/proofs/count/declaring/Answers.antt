@@ -9,7 +9,7 @@ use Rattle.dce_uses.specs.Noted.{declaring, lets_go}
 use Rattle.dce_uses.specs.Tables.{holds}
 use Rattle.dce_uses.proofs.count.declaring.Goals as goal
 
-by_place : (t : Tally) (p : Place) (l : Label) (low : Bool) → ((f : Fact) → holds t f ≡ false) → low ≡ lets_go p l → (f : Fact) → holds (record { uses = t.uses; writes = t.writes; is_read = t.is_read; is_abroad = t.is_abroad; is_declared = true; is_held = not low; is_hidden = t.is_hidden }) f ≡ declaring f p l
+by_place : (t : Tally) (p : Place) (l : Label) (low : Bool) → ((f : Fact) → holds t f ≡ false) → low ≡ lets_go p l → (f : Fact) → holds (record { uses = t.uses; writes = t.writes; is_abroad = t.is_abroad; is_declared = true; is_held = not low; is_hidden = t.is_hidden }) f ≡ declaring f p l
 by_place t p l low none is_low fact.Declared = refl
 by_place t p l low none is_low fact.Held = ap not is_low
 by_place t p l low none is_low f = none f

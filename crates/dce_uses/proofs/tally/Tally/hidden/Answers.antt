@@ -6,7 +6,7 @@ use Rattle.dce_uses.specs.Noted.{is_hiding}
 use Rattle.dce_uses.specs.Tables.{holds}
 use Rattle.dce_uses.proofs.tally.Tally.hidden.Goals as goal
 
-alone : (t : Tally) → ((f : Fact) → holds t f ≡ false) → (f : Fact) → holds (record { uses = t.uses; writes = t.writes; is_read = t.is_read; is_abroad = t.is_abroad; is_declared = t.is_declared; is_held = t.is_held; is_hidden = true }) f ≡ is_hiding f
+alone : (t : Tally) → ((f : Fact) → holds t f ≡ false) → (f : Fact) → holds (record { uses = t.uses; writes = t.writes; is_abroad = t.is_abroad; is_declared = t.is_declared; is_held = t.is_held; is_hidden = true }) f ≡ is_hiding f
 alone t none fact.Hidden = refl
 alone t none f = none f
 

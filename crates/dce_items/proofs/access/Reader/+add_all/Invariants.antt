@@ -1,7 +1,7 @@
 use Rattle.std.proofs.Common.{◌≤◌}
 use Rattle.tree_visit.specs.Nodes.{children_forest}
 use Rattle.tree_visit.proofs.Caps.{forest_size}
-use Rattle.dce_items.proofs.access.+add_all.Given as goal
+use Rattle.dce_items.proofs.access.Reader.+add_all.Given as goal
 
 abbrev pub decreases-add_all : goal.decreases-add_all
 decreases-add_all l = forest_size (children_forest l.children)
