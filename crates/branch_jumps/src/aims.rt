@@ -49,14 +49,14 @@ pub struct Jumps<'a> {
 }
 
 impl<'a> Jumps<'a> {
-    /// Those that may be aimed at a loop.
-    pub fn looping() -> Jumps<'a>
-        ensures { kinds result ≡ once.looping }
+    /// Those that may be aimed at a loop, which may have labels or not.
+    pub fn looping(labels: bool) -> Jumps<'a>
+        ensures { kinds result ≡ once.looping labels }
     {
         Jumps {
             breaks: true,
             continues: true,
-            labelled: true,
+            labelled: labels,
             inside: None,
         }
     }

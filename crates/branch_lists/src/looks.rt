@@ -11,7 +11,7 @@ ghost use Rattle.branch_lists.specs.Swept.{trees};
 
 use stmt_like::StmtLike;
 use swc_ast::{Decl, Stmt, VarDecl};
-use tree_nodes::is_lexical;
+use tree_nodes::{is_lexical, is_stopper};
 
 /// Whether a declaration declares nothing but by `var`.
 fn is_bare_var(n: &VarDecl) -> bool
@@ -105,37 +105,6 @@ fn is_loose_decl(n: &Decl) -> bool
     }
 }
 
-/// Whether a statement ends its list whenever it runs.
-#[tactic(auto, using(swc_ast::proofs::Equations::forms))]
-fn stops_stmt(s: &Stmt) -> bool
-    ensures { result ≡ weight.is_stopper (stmt_tree s.now) }
-{
-    match s {
-        Stmt::Return(_) | Stmt::Throw(_) | Stmt::Break(_) | Stmt::Continue(_) => true,
-        Stmt::Block(_)
-        | Stmt::Empty(_)
-        | Stmt::Labeled(_)
-        | Stmt::If(_)
-        | Stmt::Switch(_)
-        | Stmt::Try(_)
-        | Stmt::While(_)
-        | Stmt::DoWhile(_)
-        | Stmt::For(_)
-        | Stmt::Expr(_) => false,
-        Stmt::Decl(n) => stops_decl(n),
-    }
-}
-
-#[tactic(auto, using(swc_ast::proofs::Equations::forms))]
-fn stops_decl(n: &Decl) -> bool
-    ensures { result ≡ weight.is_stopper (decl_tree n.now) }
-{
-    match n {
-        Decl::Fn(_) => false,
-        Decl::Var(_) => false,
-    }
-}
-
 /// Whether a statement is the declaration of a function.
 #[tactic(auto, using(swc_ast::proofs::Equations::forms))]
 fn stays_stmt(s: &Stmt) -> bool
@@ -187,7 +156,7 @@ pub(crate) fn stops<T: StmtLike>(item: &T) -> bool
     ensures { result ≡ weight.is_stopper (item_tree (T.item item.now)) }
 {
     match item.as_stmt() {
-        Some(s) => stops_stmt(s),
+        Some(s) => is_stopper(s),
         None => false,
     }
 }

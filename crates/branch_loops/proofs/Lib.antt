@@ -4,3 +4,4 @@ pub mod Tests
 pub mod WhileSteps
 pub mod ForSteps
 pub mod OnceSteps
+pub mod WithinSteps

@@ -28,11 +28,11 @@ use Rattle.branch_expressions.proofs.Made.{pure_known}
 use Rattle.branch_parts.proofs.GivesNothing.{stmt_gives_nothing}
 use Rattle.branch_loops.specs.Runs.{is_function_tree, Once, runs_once, stays_round, JumpAt, Passed}
 
-pub once_jump : (t u : Tree) (s : Stmt) (ss : List Span) → is_jump t ≡ true → stmt_tree s ≡ node Empty ss ε → Once t u (Some s)
-once_jump t u s ss h is = runs_once ss (a_jump t h) is
+pub once_jump : (k : Bool) (t u : Tree) (s : Stmt) (ss : List Span) → is_jump t ≡ true → stmt_tree s ≡ node Empty ss ε → Once k t u (Some s)
+once_jump k t u s ss h is = runs_once ss (a_jump t h) is
 
-pub once_whole : (b : Stmt) (u : Tree) (s : Stmt) → is_plain (stmt_tree b) ≡ true → escapes looping (stmt_tree b) ≡ false → stmt_tree s ≡ stmt_tree b → Once (stmt_tree b) u (Some s)
-once_whole b u s p e is = runs_once [] (whole (stmt_tree b) p (stmt_gives_nothing b) e) is
+pub once_whole : (k : Bool) (b : Stmt) (u : Tree) (s : Stmt) → is_plain (stmt_tree b) ≡ true → escapes (looping k) (stmt_tree b) ≡ false → stmt_tree s ≡ stmt_tree b → Once k (stmt_tree b) u (Some s)
+once_whole k b u s p e is = runs_once [] (whole (stmt_tree b) p (stmt_gives_nothing b) e) is
 
 behind : {X : Type 0} (front : List X) (x : X) (rest : List X) → drop (suc (length front)) (front ++ x ∷ rest) ≡ rest
 behind [] x rest = refl
@@ -47,13 +47,13 @@ without front x rest =
     let e : length front + 1 ≡ suc (length front) = omega arith in
     ap (λ k. take (length front) (front ++ x ∷ rest) ++ drop k (front ++ x ∷ rest)) e ∙ ap₂ (λ xs ys. xs ++ ys) (in_front front (x ∷ rest)) (behind front x rest)
 
-pub once_inside : (n : BlockStmt Stmt) (i : ℕ) (made : List Stmt) (ss : List Span) (u : Tree) (s : Stmt) → JumpAt i n.stmts.items → made ≡ take i n.stmts.items ++ drop (i + 1) n.stmts.items → stmt_tree s ≡ node Block ss (list_trees stmt_tree made) → Once (block_tree stmt_tree n) u (Some s)
-once_inside n i made ss u s j is at =
+pub once_inside : (k : Bool) (n : BlockStmt Stmt) (i : ℕ) (made : List Stmt) (ss : List Span) (u : Tree) (s : Stmt) → JumpAt k i n.stmts.items → made ≡ take i n.stmts.items ++ drop (i + 1) n.stmts.items → stmt_tree s ≡ node Block ss (list_trees stmt_tree made) → Once k (block_tree stmt_tree n) u (Some s)
+once_inside k n i made ss u s j is at =
     let ts = list_trees stmt_tree j.front in
     let rest = list_trees stmt_tree j.rest in
     let step = inside (n.span ∷ []) ss ts (stmt_tree j.jump) rest j.before j.jumps j.functions in
     let made_is = is ∙ ap (λ k. take k n.stmts.items ++ drop (k + 1) n.stmts.items) (sym j.place) ∙ ap (λ xs. take (length j.front) xs ++ drop (length j.front + 1) xs) j.is ∙ without j.front j.jump j.rest in
-    subst (λ t. Once t u (Some s)) (sym (ap (λ xs. node Block (n.span ∷ []) (list_trees stmt_tree xs)) j.is ∙ ap (node Block (n.span ∷ [])) (row_joined stmt_tree j.front (j.jump ∷ j.rest))))
+    subst (λ t. Once k t u (Some s)) (sym (ap (λ xs. node Block (n.span ∷ []) (list_trees stmt_tree xs)) j.is ∙ ap (node Block (n.span ∷ [])) (row_joined stmt_tree j.front (j.jump ∷ j.rest))))
     (runs_once [] step (at ∙ ap (λ xs. node Block ss (list_trees stmt_tree xs)) made_is ∙ ap (node Block ss) (row_joined stmt_tree j.front j.rest)))
 
 -- steps of `do`
@@ -61,8 +61,12 @@ once_inside n i made ss u s j is at =
 pub endless_is : (s : Span) (b : Box Stmt Global) → stmt_tree (in_stmt.For (roll-ForStmt (record { span = s; init = None; test = None; update = None; body = b }))) ≡ node For (s ∷ []) (absent ⊳ absent ⊳ absent ⊳ stmt_tree b.value ⊳ ε)
 endless_is s b = stmt_tree-For (roll-ForStmt (record { span = s; init = None; test = None; update = None; body = b })) ∙ for_tree-is (roll-ForStmt (record { span = s; init = None; test = None; update = None; body = b }))
 
-do_is : (n : WhileStmt) → do_while_node (loop_trees n) ≡ node DoWhile (n.span ∷ []) (stmt_tree n.body.value ⊳ expr_tree n.test.value ⊳ ε)
+pub do_is : (n : WhileStmt) → do_while_node (loop_trees n) ≡ node DoWhile (n.span ∷ []) (stmt_tree n.body.value ⊳ expr_tree n.test.value ⊳ ε)
 do_is n = ap do_while_node (loop_trees-is n)
+
+-- one with the same body
+pub same_do : (n m : WhileStmt) → stmt_tree m.body.value ≡ stmt_tree n.body.value → m.span ≡ n.span → m.test ≡ n.test → do_while_node (loop_trees m) ≡ do_while_node (loop_trees n)
+same_do n m e span test = do_is m ∙ ap (λ x. node DoWhile (x ∷ []) (stmt_tree m.body.value ⊳ expr_tree m.test.value ⊳ ε)) span ∙ ap (λ x. node DoWhile (n.span ∷ []) (x ⊳ expr_tree m.test.value ⊳ ε)) e ∙ ap (λ x. node DoWhile (n.span ∷ []) (stmt_tree n.body.value ⊳ expr_tree x.value ⊳ ε)) test ∙ sym (do_is n)
 
 module _ (mark : ℕ) (n : WhileStmt) where
   pub endless_do : (u : Tree) (s : Stmt) → stmt_tree s ≡ node For (n.span ∷ []) (absent ⊳ absent ⊳ absent ⊳ stmt_tree n.body.value ⊳ ε) → pure_truth mark (expr_tree n.test.value) ≡ Some true → Turns mark (do_while_node (loop_trees n)) u (Some s)
@@ -71,15 +75,15 @@ module _ (mark : ℕ) (n : WhileStmt) where
       let p = pure_known (pure mark t) (truth mark t) true h in
       subst (λ x. Turns mark x u (Some s)) (sym (do_is n)) (by_rule [] (statement (do_true (n.span ∷ []) [] [] [] (n.span ∷ []) (stmt_tree n.body.value) t (is_an_expression n.test.value) p.0 p.1)) is)
 
-  pub once_do : (m : WhileStmt) (b c : Stmt) (o : Option Stmt) → Once (stmt_tree b) (stmt_tree c) o → pure_truth mark (expr_tree n.test.value) ≡ Some false → b ≡ n.body.value → m.body.value ≡ c → m.span ≡ n.span → m.test ≡ n.test → Turns mark (do_while_node (loop_trees n)) (do_while_node (loop_trees m)) o
-  once_do m b c o k h is made span test = by o (subst (λ x. Once (stmt_tree x) (stmt_tree c) o) is k)
+  pub once_do : (m : WhileStmt) (b c : Stmt) (o : Option Stmt) → Once true (stmt_tree b) (stmt_tree c) o → pure_truth mark (expr_tree n.test.value) ≡ Some false → b ≡ n.body.value → m.body.value ≡ c → m.span ≡ n.span → m.test ≡ n.test → Turns mark (do_while_node (loop_trees n)) (do_while_node (loop_trees m)) o
+  once_do m b c o k h is made span test = by o (subst (λ x. Once true (stmt_tree x) (stmt_tree c) o) is k)
     where
-      by : (q : Option Stmt) → Once (stmt_tree n.body.value) (stmt_tree c) q → Turns mark (do_while_node (loop_trees n)) (do_while_node (loop_trees m)) q
+      by : (q : Option Stmt) → Once true (stmt_tree n.body.value) (stmt_tree c) q → Turns mark (do_while_node (loop_trees n)) (do_while_node (loop_trees m)) q
       by q (runs_once rs {us = us} {s = s} r at) =
           let t = expr_tree n.test.value in
           let p = pure_known (pure mark t) (truth mark t) false h in
           subst (λ x. Turns mark x (do_while_node (loop_trees m)) (Some s)) (sym (do_is n)) (by_rule rs (once (do_once (n.span ∷ []) (stmt_tree n.body.value) t (is_an_expression n.test.value) p.0 p.1 r)) at)
-      by q (stays_round e) = as_it_was (do_is m ∙ ap (λ x. node DoWhile (x ∷ []) (stmt_tree m.body.value ⊳ expr_tree m.test.value ⊳ ε)) span ∙ ap (λ x. node DoWhile (n.span ∷ []) (x ⊳ expr_tree m.test.value ⊳ ε)) (ap stmt_tree made ∙ e) ∙ ap (λ x. node DoWhile (n.span ∷ []) (stmt_tree n.body.value ⊳ expr_tree x.value ⊳ ε)) test ∙ sym (do_is n))
+      by q (stays_round e) = as_it_was (same_do n m (ap stmt_tree made ∙ e) span test)
 
 -- statements one after another
 
@@ -90,23 +94,23 @@ parts_false : (a b : Bool) → (a || b) ≡ false → (a ≡ false) × (b ≡ fa
 parts_false true b h = impossible (sym h)
 parts_false false b h = (refl, h)
 
-none_more : (xs : List Stmt) (s : Stmt) → some_escape looping (list_trees stmt_tree xs) ≡ false → escapes looping (stmt_tree s) ≡ false → some_escape looping (list_trees stmt_tree (xs ++ s ∷ [])) ≡ false
-none_more [] s h e = both_false _ false e refl
-none_more (x ∷ xs) s h e = let p = parts_false (escapes looping (stmt_tree x)) _ h in both_false (escapes looping (stmt_tree x)) _ p.0 (none_more xs s p.1 e)
+none_more : (k : Bool) (xs : List Stmt) (s : Stmt) → some_escape (looping k) (list_trees stmt_tree xs) ≡ false → escapes (looping k) (stmt_tree s) ≡ false → some_escape (looping k) (list_trees stmt_tree (xs ++ s ∷ [])) ≡ false
+none_more k [] s h e = both_false _ false e refl
+none_more k (x ∷ xs) s h e = let p = parts_false (escapes (looping k) (stmt_tree x)) _ h in both_false (escapes (looping k) (stmt_tree x)) _ p.0 (none_more k xs s p.1 e)
 
-pub passed_none : (i : ℕ) (ss left : List Stmt) → i ≡ 0 → ss ≡ left → Passed i ss left
-passed_none i ss left none is = record { front = []; is = is; place = sym none; before = refl }
+pub passed_none : (k : Bool) (i : ℕ) (ss left : List Stmt) → i ≡ 0 → ss ≡ left → Passed k i ss left
+passed_none k i ss left none is = record { front = []; is = is; place = sym none; before = refl }
 
-pub passed_more : (i j : ℕ) (ss left rest : List Stmt) (s : Stmt) → Passed i ss left → left ≡ s ∷ rest → j ≡ i + 1 → escapes looping (stmt_tree s) ≡ false → Passed j ss rest
-passed_more i j ss left rest s p is next h = record {
+pub passed_more : (k : Bool) (i j : ℕ) (ss left rest : List Stmt) (s : Stmt) → Passed k i ss left → left ≡ s ∷ rest → j ≡ i + 1 → escapes (looping k) (stmt_tree s) ≡ false → Passed k j ss rest
+passed_more k i j ss left rest s p is next h = record {
   front = p.front ++ s ∷ [];
   is = p.is ∙ ap (λ xs. p.front ++ xs) is ∙ sym (append_assoc p.front (s ∷ []) rest);
-  place = length-append p.front (s ∷ []) ∙ ap (λ k. k + 1) p.place ∙ sym next;
-  before = none_more p.front s p.before h;
+  place = length-append p.front (s ∷ []) ∙ ap (λ m. m + 1) p.place ∙ sym next;
+  before = none_more k p.front s p.before h;
 }
 
-pub jump_at : (i : ℕ) (ss left rest : List Stmt) (s : Stmt) → Passed i ss left → left ≡ s ∷ rest → is_jump (stmt_tree s) ≡ true → all_functions (list_trees stmt_tree rest) ≡ true → JumpAt i ss
-jump_at i ss left rest s p is h f = record { front = p.front; jump = s; rest = rest; is = p.is ∙ ap (λ xs. p.front ++ xs) is; place = p.place; before = p.before; jumps = h; functions = f }
+pub jump_at : (k : Bool) (i : ℕ) (ss left rest : List Stmt) (s : Stmt) → Passed k i ss left → left ≡ s ∷ rest → is_jump (stmt_tree s) ≡ true → all_functions (list_trees stmt_tree rest) ≡ true → JumpAt k i ss
+jump_at k i ss left rest s p is h f = record { front = p.front; jump = s; rest = rest; is = p.is ∙ ap (λ xs. p.front ++ xs) is; place = p.place; before = p.before; jumps = h; functions = f }
 
 first_function : (t : Tree) (ts : Forest) → is_function_tree t ≡ true → all_functions (t ⊳ ts) ≡ all_functions ts
 first_function (node (FnDecl x) ss cs) ts h = refl

@@ -38,3 +38,7 @@ is_heavy _ = false
 pub data PartLeft (mark : ℕ) (t u : Tree) : Bool → Type 0 where
   part_same : u ≡ t → PartLeft mark t u false
   part_changed : is_expression (label_of t) ≡ true → Part mark t u → PartLeft mark t u true
+
+-- the spans of a new node
+abbrev pub nowhere : List Span
+nowhere = record { lo = 0; hi = 0 } ∷ []

@@ -3,36 +3,47 @@ use Rattle.std.specs.Prelude.{ℕ, ◌≡◌, Bool, true, false, List, ◌∷◌
 use Rattle.swc_ast.specs.declared.Span.{Span}
 use Rattle.swc_ast.specs.declared.statements.Stmt.{Stmt}
 use Rattle.swc_ast.specs.Parts.{list_trees}
-use Rattle.swc_ast.specs.Tree.{FnDecl, Tree, node, Forest}
+use Rattle.swc_ast.specs.Tree.{FnDecl, Tree, node, Forest, ε, ◌⊳◌}
 use Rattle.swc_ast.specs.Views.{stmt_tree}
 use Rattle.branch_rules.specs.Jumps.{some_escape}
 use Rattle.branch_rules.specs.Once.{looping, is_jump, all_functions, OnceRun}
 use Rattle.branch_rules.specs.Statements.{as_statement}
+use Rattle.branch_rules.specs.Within.{Within, WithinStep}
 
 -- a function declaration
 abbrev pub is_function_tree : Tree → Bool
 is_function_tree (node (FnDecl x) ss cs) = true
 is_function_tree _ = false
 
--- the body, b before and u now
-pub data Once (b u : Tree) : Option Stmt → Type 0 where
-  runs_once : (rs : List Span) {us : Forest} {s : Stmt} → OnceRun b us → stmt_tree s ≡ as_statement rs us → Once b u (Some s)
-  stays_round : u ≡ b → Once b u None
+-- the body, b before and u now, of a loop that may have labels or not
+pub data Once (labels : Bool) (b u : Tree) : Option Stmt → Type 0 where
+  runs_once : (rs : List Span) {us : Forest} {s : Stmt} → OnceRun labels b us → stmt_tree s ≡ as_statement rs us → Once labels b u (Some s)
+  stays_round : u ≡ b → Once labels b u None
 
 -- the first jump among some statements, with nothing but functions behind it
-pub record JumpAt (i : ℕ) (ss : List Stmt) : Type 0 where
+pub record JumpAt (labels : Bool) (i : ℕ) (ss : List Stmt) : Type 0 where
   pub front : List Stmt
   pub jump : Stmt
   pub rest : List Stmt
   pub is : ss ≡ front ++ jump ∷ rest
   pub place : length front ≡ i
-  pub before : some_escape looping (list_trees stmt_tree front) ≡ false
+  pub before : some_escape (looping labels) (list_trees stmt_tree front) ≡ false
   pub jumps : is_jump (stmt_tree jump) ≡ true
   pub functions : all_functions (list_trees stmt_tree rest) ≡ true
 
 -- statements before the i-th, in which no jump aimed at a loop round them stands
-pub record Passed (i : ℕ) (ss left : List Stmt) : Type 0 where
+pub record Passed (labels : Bool) (i : ℕ) (ss left : List Stmt) : Type 0 where
   pub front : List Stmt
   pub is : ss ≡ front ++ left
   pub place : length front ≡ i
-  pub before : some_escape looping (list_trees stmt_tree front) ≡ false
+  pub before : some_escape (looping labels) (list_trees stmt_tree front) ≡ false
+
+-- a `do` in a loop's body, t before and u now
+pub data RunsDo (mark : ℕ) (t u : Tree) : Option Stmt → Type 0 where
+  do_runs : {s : Stmt} → Within mark true t (stmt_tree s) → RunsDo mark t u (Some s)
+  do_stays : u ≡ t → RunsDo mark t u None
+
+-- a loop, t before and u now
+pub data RunsWithin (mark : ℕ) (t u : Tree) : Bool → Type 0 where
+  runs_within : WithinStep mark t (u ⊳ ε) → RunsWithin mark t u true
+  as_before : u ≡ t → RunsWithin mark t u false

@@ -41,7 +41,7 @@ pub fn fold_do(
 {
     match n.test.as_pure_bool(ctx) {
         Value::Known(true) => Ok(Some(take_endless(alloc, n)?)),
-        Value::Known(false) => Ok(run_once(alloc, &mut n.body)),
+        Value::Known(false) => Ok(run_once(alloc, true, &mut n.body)),
         Value::Unknown => Ok(None),
     }
 }

@@ -7,7 +7,9 @@ mod looks;
 mod nodes;
 mod once;
 mod whiles;
+mod within;
 
 pub use dos::fold_do;
 pub use fors::fold_for;
 pub use whiles::fold_while;
+pub use within::run_within;

@@ -8,10 +8,7 @@ use branch_parts::{take_expr, take_stmt};
 use branch_vars::declare_vars;
 use std::alloc::{AllocError, Global};
 use std::mem;
-use swc_ast::{Bool, EmptyStmt, Expr, ForStmt, Lit, Span, Stmt, WhileStmt};
-
-/// What stands nowhere in the text.
-const NOWHERE: Span = Span { lo: 0, hi: 0 };
+use swc_ast::{Bool, DUMMY_SP, EmptyStmt, Expr, ForStmt, Lit, Stmt, WhileStmt};
 
 /// `true` or `false`.
 #[tactic(auto, using(swc_ast::proofs::Equations::forms))]
@@ -19,7 +16,7 @@ pub(crate) fn truth_literal(value: bool) -> Expr
     ensures { expr_tree result ≡ truth_tree value }
 {
     Expr::Lit(Lit::Bool(Bool {
-        span: NOWHERE,
+        span: DUMMY_SP,
         value,
     }))
 }
@@ -31,7 +28,7 @@ pub(crate) fn names_left(alloc: Global, body: &Stmt) -> Result<Stmt, AllocError>
 {
     match declare_vars(alloc, body)? {
         Some(names) => Ok(names),
-        None => Ok(Stmt::Empty(EmptyStmt { span: NOWHERE })),
+        None => Ok(Stmt::Empty(EmptyStmt { span: DUMMY_SP })),
     }
 }
 

@@ -10,10 +10,7 @@ use branch_jumps::{Jumps, has_jump};
 use branch_parts::{is_plain, take_stmt};
 use std::alloc::Global;
 use std::mem;
-use swc_ast::{BlockStmt, Decl, EmptyStmt, Span, Stmt};
-
-/// What stands nowhere in the text.
-const NOWHERE: Span = Span { lo: 0, hi: 0 };
+use swc_ast::{BlockStmt, DUMMY_SP, Decl, EmptyStmt, Stmt};
 
 /// Whether a statement is `break` or `continue` without a label.
 #[tactic(auto, using(swc_ast::proofs::Equations::forms))]
@@ -63,8 +60,8 @@ fn are_functions(stmts: &[Stmt]) -> bool
 
 /// Where the first direct jump stands, if no jump aimed at a loop round the statements stands in those before it, and
 /// nothing but functions behind it.
-fn jump_place(stmts: &[Stmt]) -> Option<usize>
-    ensures { IfSome result (λ i. JumpAt i stmts.now) }
+fn jump_place(labels: bool, stmts: &[Stmt]) -> Option<usize>
+    ensures { IfSome result (λ i. JumpAt labels i stmts.now) }
 {
     let mut left = stmts;
     let mut place = 0;
@@ -75,7 +72,7 @@ fn jump_place(stmts: &[Stmt]) -> Option<usize>
             }
             return None;
         }
-        if has_jump(Jumps::looping(), s) {
+        if has_jump(Jumps::looping(labels), s) {
             return None;
         }
         place += 1;
@@ -85,10 +82,10 @@ fn jump_place(stmts: &[Stmt]) -> Option<usize>
 }
 
 /// A block whose first direct jump goes.
-fn run_front(alloc: Global, n: &mut BlockStmt) -> Option<Stmt>
-    ensures { Once (block_tree stmt_tree n.old) (block_tree stmt_tree n.new) result }
+fn run_front(alloc: Global, labels: bool, n: &mut BlockStmt) -> Option<Stmt>
+    ensures { Once labels (block_tree stmt_tree n.old) (block_tree stmt_tree n.new) result }
 {
-    match jump_place(&n.stmts) {
+    match jump_place(labels, &n.stmts) {
         Some(place) => {
             let mut stmts = mem::replace(&mut n.stmts, Vec::new(alloc));
             drop(stmts.remove(place));
@@ -101,19 +98,20 @@ fn run_front(alloc: Global, n: &mut BlockStmt) -> Option<Stmt>
     }
 }
 
-/// What a body that is run once becomes without the loop round it, if no jump that is aimed at the loop is left in it.
+/// What a body that is run once becomes without the loop round it, which may have labels or not, if no jump that is aimed at
+/// the loop is left in it.
 #[tactic(auto, using(swc_ast::proofs::Equations::forms))]
-pub(crate) fn run_once(alloc: Global, body: &mut Stmt) -> Option<Stmt>
-    ensures { Once (stmt_tree body.old) (stmt_tree body.new) result }
+pub(crate) fn run_once(alloc: Global, labels: bool, body: &mut Stmt) -> Option<Stmt>
+    ensures { Once labels (stmt_tree body.old) (stmt_tree body.new) result }
 {
     if is_jump(body) {
-        return Some(Stmt::Empty(EmptyStmt { span: NOWHERE }));
+        return Some(Stmt::Empty(EmptyStmt { span: DUMMY_SP }));
     }
-    if is_plain(body) && !has_jump(Jumps::looping(), body) {
+    if is_plain(body) && !has_jump(Jumps::looping(labels), body) {
         return Some(take_stmt(body));
     }
     match body {
-        Stmt::Block(n) => run_front(alloc, n),
+        Stmt::Block(n) => run_front(alloc, labels, n),
         _ => None,
     }
 }

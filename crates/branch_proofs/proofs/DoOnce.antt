@@ -1,6 +1,6 @@
 -- A `do` whose test is false runs its body once.
-use Rattle.std.proofs.Common.{◌≡◌, ℕ, zero, suc, Bool, true, false, ◌||◌, if◌then◌else◌, List, [], ◌++◌, Some, None, refl, sym, ap, ◌∙◌}
-use Rattle.std.proofs.lemmas.Bool.{false≢true, true≢false}
+use Rattle.std.proofs.Common.{◌≡◌, ℕ, zero, suc, Bool, true, false, ◌||◌, if◌then◌else◌, List, [], ◌++◌, Some, None, refl, sym, ap, subst, ◌∙◌}
+use Rattle.std.proofs.lemmas.Bool.{and_from, false≢true, true≢false}
 use Rattle.swc_ast.specs.declared.Span.{Span}
 use Rattle.swc_ast.specs.Tree.{Name, Block, Break, Continue, Tree, node, Forest, ε, ◌⊳◌}
 use Rattle.swc_ast.specs.Value.{Value, Undefined, State, Broken, Continued, Returned, Thrown, Outcome, Done, Jumps, Outside, Cut, Run, and_then, Context, Meaning}
@@ -16,14 +16,16 @@ use Rattle.pass_proofs.proofs.Refines.{refines_path}
 use Rattle.pass_proofs.proofs.Truths.{truth_keeps}
 use Rattle.meaning_proofs.proofs.Finds.{has_cons, has_joined}
 use Rattle.branch_proofs.proofs.Becoming.{Becomes, SameVars}
-use Rattle.branch_rules.specs.Jumps.{escapes, some_escape}
-use Rattle.branch_proofs.proofs.Leaving.{Stays}
+use Rattle.branch_rules.specs.Jumps.{in_loop, escapes, some_escape}
+use Rattle.branch_proofs.proofs.Leaving.{is_kind, Stays}
 use Rattle.branch_rules.specs.Once.{looping, labelling, is_jump, OnceRun, whole, a_jump, inside, DoStep, do_once, all_functions}
+use Rattle.branch_rules.specs.Statements.{gives_nothing, all_give_nothing}
 use Rattle.branch_proofs.proofs.Becomes.{run_behind}
 use Rattle.branch_proofs.proofs.Declared.{one}
 use Rattle.branch_proofs.proofs.Dropped.{made_dropped}
 use Rattle.branch_proofs.proofs.Jumps.{tree_keeps, calls_keep}
 use Rattle.branch_proofs.proofs.Labels.{tree_same}
+use Rattle.branch_proofs.proofs.Relabelled.{relabel}
 use Rattle.branch_proofs.proofs.Statements.{scope_of, dropped_same}
 use Rattle.branch_proofs.proofs.Tests.{one_declares, declared_behind}
 use Rattle.branch_proofs.proofs.Labelled.{expression_vars, plain_declares}
@@ -31,45 +33,56 @@ use Rattle.branch_proofs.proofs.Escapes.{escapes_less, some_less, functions_stay
 use Rattle.branch_proofs.proofs.Unbroken.{list_keeps, functions_run}
 use mathlib.Core.Path.{fun_ext}
 
+-- labels in front of a loop, if it may have some
+abbrev pub Labels : Bool → List (List ℕ) → Type 0
+Labels true ls = Unit {0}
+Labels false ls = ls ≡ []
+
 -- what a turn comes to where no other follows
 abbrev over : List (List ℕ) → Outcome Value → Outcome Value
 over ls o = and_then (turn ls o) (λ b. gives Undefined)
 
-over_quiet : (ls : List (List ℕ)) (o : Outcome Value) → Stays looping o → over ls o ≡ and_then o (λ v. gives Undefined)
+-- a labelled `continue` that isn't aimed at the loop
+over_label : (k : Bool) (ls : List (List ℕ)) (l : List ℕ) (s : State) → Labels k ls → is_kind (looping k) (Continued (Some l)) ≡ false → over ls (Jumps (Continued (Some l)) s) ≡ Jumps (Continued (Some l)) s
 unfolding turn and_then
-over_quiet ls (Done v s) h = refl
-over_quiet ls (Jumps (Broken None) s) h = absurd (true≢false h)
-over_quiet ls (Jumps (Broken (Some l)) s) h = refl
-over_quiet ls (Jumps (Continued None) s) h = absurd (true≢false h)
-over_quiet ls (Jumps (Continued (Some l)) s) h = absurd (true≢false h)
-over_quiet ls (Jumps (Returned v) s) h = refl
-over_quiet ls (Jumps (Thrown v) s) h = refl
-over_quiet ls Outside h = refl
-over_quiet ls Cut h = refl
+over_label true ls l s p h = absurd (true≢false h)
+over_label false ls l s p h = subst (λ ms. over ms (Jumps (Continued (Some l)) s) ≡ Jumps (Continued (Some l)) s) (sym p) refl
 
-over_break : (ls : List (List ℕ)) (o : Outcome Value) (rest : Value → Run Value) → Stays looping o → over ls (and_then o (λ v. (λ s. Jumps (Broken None) s) >>= rest)) ≡ and_then o (λ v. gives Undefined)
+over_quiet : (k : Bool) (ls : List (List ℕ)) (o : Outcome Value) → Labels k ls → Stays (looping k) o → over ls o ≡ and_then o (λ v. gives Undefined)
 unfolding turn and_then
-over_break ls (Done v s) rest h = refl
-over_break ls (Jumps (Broken None) s) rest h = absurd (true≢false h)
-over_break ls (Jumps (Broken (Some l)) s) rest h = refl
-over_break ls (Jumps (Continued None) s) rest h = absurd (true≢false h)
-over_break ls (Jumps (Continued (Some l)) s) rest h = absurd (true≢false h)
-over_break ls (Jumps (Returned v) s) rest h = refl
-over_break ls (Jumps (Thrown v) s) rest h = refl
-over_break ls Outside rest h = refl
-over_break ls Cut rest h = refl
+over_quiet k ls (Done v s) p h = refl
+over_quiet k ls (Jumps (Broken None) s) p h = absurd (true≢false h)
+over_quiet k ls (Jumps (Broken (Some l)) s) p h = refl
+over_quiet k ls (Jumps (Continued None) s) p h = absurd (true≢false h)
+over_quiet k ls (Jumps (Continued (Some l)) s) p h = over_label k ls l s p h
+over_quiet k ls (Jumps (Returned v) s) p h = refl
+over_quiet k ls (Jumps (Thrown v) s) p h = refl
+over_quiet k ls Outside p h = refl
+over_quiet k ls Cut p h = refl
 
-over_continue : (ls : List (List ℕ)) (o : Outcome Value) (rest : Value → Run Value) → Stays looping o → over ls (and_then o (λ v. (λ s. Jumps (Continued None) s) >>= rest)) ≡ and_then o (λ v. gives Undefined)
+over_break : (k : Bool) (ls : List (List ℕ)) (o : Outcome Value) (rest : Value → Run Value) → Labels k ls → Stays (looping k) o → over ls (and_then o (λ v. (λ s. Jumps (Broken None) s) >>= rest)) ≡ and_then o (λ v. gives Undefined)
 unfolding turn and_then
-over_continue ls (Done v s) rest h = refl
-over_continue ls (Jumps (Broken None) s) rest h = absurd (true≢false h)
-over_continue ls (Jumps (Broken (Some l)) s) rest h = refl
-over_continue ls (Jumps (Continued None) s) rest h = absurd (true≢false h)
-over_continue ls (Jumps (Continued (Some l)) s) rest h = absurd (true≢false h)
-over_continue ls (Jumps (Returned v) s) rest h = refl
-over_continue ls (Jumps (Thrown v) s) rest h = refl
-over_continue ls Outside rest h = refl
-over_continue ls Cut rest h = refl
+over_break k ls (Done v s) rest p h = refl
+over_break k ls (Jumps (Broken None) s) rest p h = absurd (true≢false h)
+over_break k ls (Jumps (Broken (Some l)) s) rest p h = refl
+over_break k ls (Jumps (Continued None) s) rest p h = absurd (true≢false h)
+over_break k ls (Jumps (Continued (Some l)) s) rest p h = over_label k ls l s p h
+over_break k ls (Jumps (Returned v) s) rest p h = refl
+over_break k ls (Jumps (Thrown v) s) rest p h = refl
+over_break k ls Outside rest p h = refl
+over_break k ls Cut rest p h = refl
+
+over_continue : (k : Bool) (ls : List (List ℕ)) (o : Outcome Value) (rest : Value → Run Value) → Labels k ls → Stays (looping k) o → over ls (and_then o (λ v. (λ s. Jumps (Continued None) s) >>= rest)) ≡ and_then o (λ v. gives Undefined)
+unfolding turn and_then
+over_continue k ls (Done v s) rest p h = refl
+over_continue k ls (Jumps (Broken None) s) rest p h = absurd (true≢false h)
+over_continue k ls (Jumps (Broken (Some l)) s) rest p h = refl
+over_continue k ls (Jumps (Continued None) s) rest p h = absurd (true≢false h)
+over_continue k ls (Jumps (Continued (Some l)) s) rest p h = over_label k ls l s p h
+over_continue k ls (Jumps (Returned v) s) rest p h = refl
+over_continue k ls (Jumps (Thrown v) s) rest p h = refl
+over_continue k ls Outside rest p h = refl
+over_continue k ls Cut rest p h = refl
 
 if_false : {A : Type 0} (m k : Run A) (b : Bool) → b ≡ false → (if b then m else k) ≡ k
 if_false m k true e = cc
@@ -111,19 +124,24 @@ module _ (mark n d : ℕ) where
   steady : (t : Tree) (c : Context) → escapes labelling t ≡ false → does t (plain c) ≡ does t c
   steady t c h = tree_same mark n (call_at (eval mark n) d) (λ g f this args. calls_keep g (eval mark n) d f this args) t h [] c
 
-  jumped : (ls : List (List ℕ)) (ts : Forest) (t : Tree) (rest vs : Forest) (e : Context) (s : State) → some_escape looping ts ≡ false → is_jump t ≡ true → all_functions vs ≡ true → over ls (runs (joined ts (t ⊳ rest)) e s) ≡ runs (joined ts vs) e s
+  -- so does one that is run without labels
+  by_labels : (k : Bool) (t : Tree) (c : Context) → Labels k c.labels → (k ≡ true → escapes labelling t ≡ false) → does t (plain c) ≡ does t c
+  by_labels true t c p h = steady t c (h refl)
+  by_labels false t c p h = ap (λ (ls : List (List ℕ)). does t (relabel ls c)) (sym p)
+
+  jumped : (k : Bool) (ls : List (List ℕ)) (ts : Forest) (t : Tree) (rest vs : Forest) (e : Context) (s : State) → Labels k ls → some_escape (looping k) ts ≡ false → is_jump t ≡ true → all_functions vs ≡ true → over ls (runs (joined ts (t ⊳ rest)) e s) ≡ runs (joined ts vs) e s
   unfolding run_all eval evals act
-  jumped ls ts (node (Break None) ss ε) rest vs e s h g f =
+  jumped k ls ts (node (Break None) ss ε) rest vs e s p h g f =
       ap (λ (m : Run Value). over ls (m s)) (run_behind mark n (call_at (eval mark n) d) ts (node (Break None) ss ε ⊳ rest) e)
-      ∙ over_break ls (runs ts e s) (λ v. runs rest e) ((list_keeps mark n d ts looping h e).by s)
+      ∙ over_break k ls (runs ts e s) (λ v. runs rest e) p ((list_keeps mark n d ts (looping k) h e).by s)
       ∙ ap (λ (m : Run Value). and_then (runs ts e s) (λ v. m)) (sym (functions_run mark n d vs e f))
       ∙ sym (ap (λ (m : Run Value). m s) (run_behind mark n (call_at (eval mark n) d) ts vs e))
-  jumped ls ts (node (Continue None) ss ε) rest vs e s h g f =
+  jumped k ls ts (node (Continue None) ss ε) rest vs e s p h g f =
       ap (λ (m : Run Value). over ls (m s)) (run_behind mark n (call_at (eval mark n) d) ts (node (Continue None) ss ε ⊳ rest) e)
-      ∙ over_continue ls (runs ts e s) (λ v. runs rest e) ((list_keeps mark n d ts looping h e).by s)
+      ∙ over_continue k ls (runs ts e s) (λ v. runs rest e) p ((list_keeps mark n d ts (looping k) h e).by s)
       ∙ ap (λ (m : Run Value). and_then (runs ts e s) (λ v. m)) (sym (functions_run mark n d vs e f))
       ∙ sym (ap (λ (m : Run Value). m s) (run_behind mark n (call_at (eval mark n) d) ts vs e))
-  jumped ls ts t rest vs e s h g f = absurd (false≢true g)
+  jumped k ls ts t rest vs e s p h g f = absurd (false≢true g)
 
   jump_alone : (ls : List (List ℕ)) (t : Tree) (e : Context) (s : State) → is_jump t ≡ true → over ls (does t e s) ≡ Done Undefined s
   unfolding eval evals act turn and_then
@@ -131,26 +149,26 @@ module _ (mark n d : ℕ) where
   jump_alone ls (node (Continue None) ss ε) e s g = refl
   jump_alone ls t e s g = absurd (false≢true g)
 
-  once_run : {b : Tree} {us : Forest} → OnceRun b us → (c : Context) → drop (λ s. over c.labels (does b (plain c) s)) ≡ runs us c
+  once_run : {k : Bool} {b : Tree} {us : Forest} → OnceRun k b us → (c : Context) → Labels k c.labels → drop (λ s. over c.labels (does b (plain c) s)) ≡ runs us c
   unfolding run_all evals and_then
-  once_run (whole b p q g) c =
-      ap drop (fun_ext (λ s. over_quiet c.labels (does b (plain c) s) ((tree_keeps mark n (call_at (eval mark n) d) (λ g f this args. calls_keep g (eval mark n) d f this args) b looping g (plain c)).by s)))
-      ∙ made_dropped (does b (plain c)) (λ v. Undefined) ∙ ap drop (steady b c (escapes_less looping b g))
-  once_run (a_jump t g) c = ap drop (fun_ext (λ s. jump_alone c.labels t (plain c) s g))
-  once_run (inside bs us ts t rest h g f) c =
+  once_run {k} (whole b p q g) c w =
+      ap drop (fun_ext (λ s. over_quiet k c.labels (does b (plain c) s) w ((tree_keeps mark n (call_at (eval mark n) d) (λ g f this args. calls_keep g (eval mark n) d f this args) b (looping k) g (plain c)).by s)))
+      ∙ made_dropped (does b (plain c)) (λ v. Undefined) ∙ ap drop (by_labels k b c w (λ e. subst (λ z. escapes (in_loop [] (looping z)) b ≡ false) e (escapes_less (looping k) b g)))
+  once_run (a_jump t g) c w = ap drop (fun_ext (λ s. jump_alone c.labels t (plain c) s g))
+  once_run {k} (inside bs us ts t rest h g f) c w =
       ap drop (
       ap (λ (m : Run Value). λ s. over c.labels (m s)) (block_is bs (joined ts (t ⊳ rest)) (plain c))
-      ∙ fun_ext (λ s. scope_over (declared (joined ts (t ⊳ rest))) (over c.labels) (runs (joined ts (t ⊳ rest))) (runs (joined ts rest)) (plain c) (λ e u. jumped c.labels ts t rest rest e u h g f) s)
+      ∙ fun_ext (λ s. scope_over (declared (joined ts (t ⊳ rest))) (over c.labels) (runs (joined ts (t ⊳ rest))) (runs (joined ts rest)) (plain c) (λ e u. jumped k c.labels ts t rest rest e u w h g f) s)
       ∙ ap (λ (ps : List Declared). scope_of ps (runs (joined ts rest)) (plain c)) (jump_declares ts t rest g)
-      ∙ sym (block_is us (joined ts rest) (plain c)) ∙ steady (node Block us (joined ts rest)) c (none_behind labelling ts rest (some_less looping ts h) (functions_stay labelling rest f)))
+      ∙ sym (block_is us (joined ts rest) (plain c)) ∙ by_labels k (node Block us (joined ts rest)) c w (λ e. none_behind labelling ts rest (subst (λ z. some_escape (in_loop [] (looping z)) ts ≡ false) e (some_less (looping k) ts h)) (functions_stay labelling rest f)))
 
-  do_run : {t : Tree} {us : Forest} → DoStep mark t us → (c : Context) → Refines (drop (does t c)) (runs us c)
+  pub do_run : {k : Bool} {t : Tree} {us : Forest} → DoStep mark k t us → (c : Context) → Labels k c.labels → Refines (drop (does t c)) (runs us c)
   unfolding eval evals act
-  do_run (do_once ss b t z p e o) c = refines_trans (dropped_same (do_ended n (does b) (does t) c (truth_keeps mark n d t false p e))) (refines_path (once_run o c))
+  do_run (do_once ss b t z p e o) c w = refines_trans (dropped_same (do_ended n (does b) (does t) c (truth_keeps mark n d t false p e))) (refines_path (once_run o c w))
 
-pub do_becomes : {mark : ℕ} {t : Tree} {us : Forest} → DoStep mark t us → Becomes mark (t ⊳ ε) us
+pub do_becomes : {mark : ℕ} {t : Tree} {us : Forest} → DoStep mark true t us → Becomes mark (t ⊳ ε) us
 unfolding run_all evals
-do_becomes {mark} h = record { by = λ n d c. do_run mark n d h c }
+do_becomes {mark} h = record { by = λ n d c. do_run mark n d h c tt }
 
 -- names
 
@@ -163,12 +181,12 @@ jump_vars x t h = absurd (false≢true h)
 jump_names : (x : Name) (ts : Forest) (t : Tree) (rest : Forest) → is_jump t ≡ true → has_name x (vars_all (joined ts (t ⊳ rest))) ≡ has_name x (vars_all (joined ts rest))
 jump_names x ts t rest g = has_joined x ts (t ⊳ rest) ∙ ap (λ b. has_name x (vars_all ts) || b) (has_cons x t rest ∙ ap (λ b. b || has_name x (vars_all rest)) (jump_vars x t g)) ∙ sym (has_joined x ts rest)
 
-once_vars : (x : Name) {b : Tree} {us : Forest} → OnceRun b us → has_name x (vars b) ≡ has_name x (vars_all us)
+once_vars : (x : Name) {k : Bool} {b : Tree} {us : Forest} → OnceRun k b us → has_name x (vars b) ≡ has_name x (vars_all us)
 once_vars x (whole b p q g) = sym (one x b)
 once_vars x (a_jump t g) = jump_vars x t g
 once_vars x (inside bs us ts t rest h g f) = jump_names x ts t rest g ∙ sym (one x (node Block us (joined ts rest)))
 
-once_declares : {b : Tree} {us : Forest} → OnceRun b us → declared us ≡ []
+once_declares : {k : Bool} {b : Tree} {us : Forest} → OnceRun k b us → declared us ≡ []
 once_declares (whole b p q g) = one_declares b (plain_declares b p)
 once_declares (a_jump t g) = refl
 once_declares (inside bs us ts t rest h g f) = refl
@@ -177,9 +195,19 @@ or_empty : (a b : Bool) → b ≡ false → (a || b) ≡ a
 or_empty true b e = refl
 or_empty false b e = e
 
-pub do_vars : {mark : ℕ} {t : Tree} {us : Forest} → DoStep mark t us → SameVars t us
+pub do_vars : {mark : ℕ} {k : Bool} {t : Tree} {us : Forest} → DoStep mark k t us → SameVars t us
 do_vars (do_once ss b t z p e o) = record {
   vars = λ x. has_cons x b (t ⊳ ε) ∙ or_empty (has_name x (vars b)) _ (one x t ∙ ap (has_name x) (expression_vars t z)) ∙ once_vars x o;
   before = refl;
   behind = once_declares o;
 }
+
+-- none of what is left gives a value
+
+once_stands : {k : Bool} {b : Tree} {us : Forest} → OnceRun k b us → all_give_nothing us ≡ true
+once_stands (whole b p g h) = and_from (gives_nothing b) true g refl
+once_stands (a_jump t g) = refl
+once_stands (inside bs us ts t rest h g f) = refl
+
+pub do_stands : {mark : ℕ} {k : Bool} {t : Tree} {us : Forest} → DoStep mark k t us → all_give_nothing us ≡ true
+do_stands (do_once ss b t e p k o) = once_stands o

@@ -25,6 +25,7 @@ pub mod Stoppers
 pub mod Switches
 pub mod SwitchDeclared
 pub mod DoOnce
+pub mod Within
 pub mod Steps
 pub mod IgnoredLight
 pub mod IgnoredLeft
@@ -52,6 +53,7 @@ pub mod ExpressionsOwe
 pub mod SwitchOwes
 pub mod AimedRest
 pub mod DoOwes
+pub mod WithinOwe
 pub mod Owes
 pub mod Resting
 pub mod ListsExact

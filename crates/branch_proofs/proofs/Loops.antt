@@ -16,7 +16,7 @@ use Rattle.branch_proofs.proofs.Dropped.{dropped_first}
 pub dropped_then : {A : Type 0} (m k : Run Value) (h i : Run A) → Refines (drop m) (drop k) → Refines h i → Refines (m >>= λ v. h) (k >>= λ v. i)
 dropped_then m k h i r q = refines_trans (refines_path (dropped_first m h)) (refines_trans (refines_then r (λ v. q)) (refines_path (sym (dropped_first k i))))
 
-refines_if : {A : Type 0} {m k h i : Run A} (b : Bool) → Refines m h → Refines k i → Refines (if b then m else k) (if b then h else i)
+pub refines_if : {A : Type 0} {m k h i : Run A} (b : Bool) → Refines m h → Refines k i → Refines (if b then m else k) (if b then h else i)
 refines_if true r q = r
 refines_if false r q = q
 
@@ -27,17 +27,26 @@ refined_turn labels (Jumps j s) p h = subst (λ q. Refined (turn labels (Jumps j
 refined_turn labels Outside p h = tt
 refined_turn labels Cut p h = tt
 
-turn_refines : {m k : Meaning} → ((c : Context) → Refines (m c) (k c)) → (c : Context) → Refines (λ s. turn c.labels (m (plain c) s)) (λ s. turn c.labels (k (plain c) s))
-turn_refines {m} {k} h c = record { by = λ s. refined_turn c.labels (m (plain c) s) (k (plain c) s) ((h (plain c)).by s) }
+-- a body is run without labels
+turn_refines : (m k : Meaning) → ((c : Context) → Refines (m (plain c)) (k (plain c))) → (c : Context) → Refines (λ s. turn c.labels (m (plain c) s)) (λ s. turn c.labels (k (plain c) s))
+turn_refines m k h c = record { by = λ s. refined_turn c.labels (m (plain c) s) (k (plain c) s) ((h c).by s) }
 
-pub turns_refine : (n : ℕ) (t t' b b' u u' : Meaning) (next : Context → Run Context) → ((c : Context) → Refines (t c) (t' c)) → ((c : Context) → Refines (b c) (b' c)) → ((c : Context) → Refines (drop (u c)) (drop (u' c))) → (c : Context) → Refines (turns n t b next u c) (turns n t' b' next u' c)
+pub turns_refine : (n : ℕ) (t t' b b' u u' : Meaning) (next : Context → Run Context) → ((c : Context) → Refines (t c) (t' c)) → ((c : Context) → Refines (b (plain c)) (b' (plain c))) → ((c : Context) → Refines (drop (u c)) (drop (u' c))) → (c : Context) → Refines (turns n t b next u c) (turns n t' b' next u' c)
 unfolding turns
 turns_refine zero t t' b b' u u' next ht hb hu c = refines_then (ht (plain c)) (λ v. refines_same _)
 turns_refine (suc n) t t' b b' u u' next ht hb hu c =
     refines_then (ht (plain c)) (λ v. refines_if (truthy v)
-    (refines_then (turn_refines hb c) (λ goes_on. refines_if goes_on
+    (refines_then (turn_refines b b' hb c) (λ goes_on. refines_if goes_on
     (refines_then (refines_same (next c)) (λ d. dropped_then (u (plain d)) (u' (plain d)) (turns n t b next u d) (turns n t' b' next u' d) (hu (plain d)) (turns_refine n t t' b b' u u' next ht hb hu d)))
     (refines_same (gives Undefined))))
+    (refines_same (gives Undefined)))
+
+pub do_turns_refine : (n : ℕ) (b b' t : Meaning) → ((c : Context) → Refines (b (plain c)) (b' (plain c))) → (c : Context) → Refines (do_turns n b t c) (do_turns n b' t c)
+unfolding do_turns
+do_turns_refine zero b b' t hb c = refines_same _
+do_turns_refine (suc n) b b' t hb c =
+    refines_then (turn_refines b b' hb c) (λ goes_on. refines_if goes_on
+    (refines_then (refines_same (t (plain c))) (λ v. refines_if (truthy v) (do_turns_refine n b b' t hb c) (refines_same (gives Undefined))))
     (refines_same (gives Undefined)))
 
 -- a test that is known to be false

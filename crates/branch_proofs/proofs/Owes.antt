@@ -10,9 +10,10 @@ use Rattle.walk_proofs.specs.Finished.{Does, at_front, at_node, at_list, at_both
 use Rattle.pass_proofs.proofs.DefaultsOwe.{default_owes}
 use Rattle.branch_rules.specs.Lists.{Tidied, kept_names}
 use Rattle.branch_rules.specs.Once.{DoStep, do_once}
-use Rattle.branch_rules.specs.Removes.{statement, once, cases, Removes, of_expression, of_statement, of_default, followed, remove_pass}
+use Rattle.branch_rules.specs.Removes.{statement, once, within, cases, Removes, of_expression, of_statement, of_default, followed, remove_pass}
 use Rattle.branch_rules.specs.Statements.{as_statement, is_plain, StatementStep, expression, choose, else_goes, branch_goes, while_true, while_false, while_never, for_first, for_update, for_true, for_false, for_no_update, for_no_body, for_never, do_true, label_empty, label_left, block_empty, block_one, try_inside, try_beside, try_alone, try_block}
 use Rattle.branch_rules.specs.Switches.{SwitchStep, nothing_left, only_default, only_default_apart, selected_case, selected_default, none_selected, leading_go}
+use Rattle.branch_rules.specs.Within.{WithinStep, while_within, do_within, for_within}
 use Rattle.branch_proofs.proofs.BranchForms as branch
 use Rattle.branch_proofs.proofs.BranchesOwe.{branch_step}
 use Rattle.branch_proofs.proofs.DoOwes.{do_owes}
@@ -24,11 +25,13 @@ use Rattle.branch_proofs.proofs.Steps.{is_source, step_source}
 use Rattle.branch_proofs.proofs.SwitchOwes.{switch_owes}
 use Rattle.branch_proofs.proofs.TidiedOwe.{tidied_owes, tidies_of}
 use Rattle.branch_proofs.proofs.Unlet.{shed_owes}
+use Rattle.branch_proofs.proofs.WithinOwe.{within_owes}
 
 pub removes_owes : {N : Type 0} {P : Name → Type 0} {mark : ℕ} {t u : Tree} → N → Removes mark t u → Step N P t u
 removes_owes n (of_expression q s) = expression_owes q s
 removes_owes n (of_statement rs (statement s)) = statement_owes n rs s
 removes_owes n (of_statement rs (once s)) = do_owes n rs s
+removes_owes n (of_statement rs (within s)) = within_owes n rs s
 removes_owes n (of_statement rs (cases s)) = switch_owes n rs s
 removes_owes n (of_default h) = default_owes _ _ _ _
 removes_owes n (followed e h i) = step_then e (removes_owes n h) (removes_owes n i)
@@ -78,13 +81,19 @@ switch_no_list (selected_default ss us d v fs k ks h g p e r i j u q o z) = refl
 switch_no_list (none_selected ss d v ks h g p e r i f q) = refl
 switch_no_list (leading_go ss us xs d v fs ks h g e r i q o w) = refl
 
-do_no_list : {mark : ℕ} {t : Tree} {us : Forest} → DoStep mark t us → is_list (label_of t) ≡ false
+do_no_list : {mark : ℕ} {t : Tree} {us : Forest} → DoStep mark true t us → is_list (label_of t) ≡ false
 do_no_list (do_once ss b t q p k o) = refl
+
+within_no_list : {mark : ℕ} {t : Tree} {us : Forest} → WithinStep mark t us → is_list (label_of t) ≡ false
+within_no_list (while_within ss rs t w) = refl
+within_no_list (do_within ss rs t w) = refl
+within_no_list (for_within ss rs i t v w) = refl
 
 pub list_opens : {mark : ℕ} {t u : Tree} → Removes mark t u → is_list (label_of t) ≡ true → Opened t u
 list_opens {t = t} (of_expression q s) e = absurd (no_list (label_of t) (step_source s) e)
 list_opens (of_statement rs (statement s)) e = statement_opens rs s e
 list_opens (of_statement rs (once s)) e = absurd (false≢true (sym (do_no_list s) ∙ e))
+list_opens (of_statement rs (within s)) e = absurd (false≢true (sym (within_no_list s) ∙ e))
 list_opens (of_statement rs (cases s)) e = absurd (false≢true (sym (switch_no_list s) ∙ e))
 list_opens (of_default h) e = absurd (false≢true e)
 list_opens (followed n h i) e = absurd (false≢true (sym n ∙ e))

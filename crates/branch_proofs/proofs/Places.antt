@@ -39,7 +39,7 @@ unfolding eval act in_list_scope
 open_block mark n call ss ts e c = fun_ext (λ s. in_nothing (list_binds ts) (list_cells ts c.this) (run_all (evals mark n call ts)) c s (λ x. ap (λ (ps : List Declared). is_found x ps) e))
 
 module _ (mark : ℕ) (rs : List Span) where
-  standing : (us : Forest) → all_give_nothing us ≡ true → declared us ≡ [] → (n d : ℕ) (c : Context) → run_all (evals mark n (call_at (eval mark n) d) us) c ≡ eval mark n (call_at (eval mark n) d) (as_statement rs us) c
+  pub standing : (us : Forest) → all_give_nothing us ≡ true → declared us ≡ [] → (n d : ℕ) (c : Context) → run_all (evals mark n (call_at (eval mark n) d) us) c ≡ eval mark n (call_at (eval mark n) d) (as_statement rs us) c
   unfolding run_all eval act evals
   standing ε h e n d c = refl
   standing (t ⊳ ε) h e n d c = discarded (statement_nothing mark n (call_at (eval mark n) d) t (and_parts (gives_nothing t) true h).0 c)
@@ -91,7 +91,7 @@ as_vars rs ε = refl
 as_vars rs (t ⊳ ε) = append-nil (vars t)
 as_vars rs (t ⊳ u ⊳ ts) = refl
 
-as_declares : (rs : List Span) (us : Forest) → declared us ≡ [] → declared_by (as_statement rs us) ≡ []
+pub as_declares : (rs : List Span) (us : Forest) → declared us ≡ [] → declared_by (as_statement rs us) ≡ []
 as_declares rs ε h = refl
 as_declares rs (t ⊳ ε) h = sym (append-nil (declared_by t)) ∙ h
 as_declares rs (t ⊳ u ⊳ ts) h = refl

@@ -136,7 +136,7 @@ module _ (mark n d : ℕ) where
   only_vars c h r = refines_trans (dropped_same r) (refines_path (sym (vars_run mark n (call_at (eval mark n) d) h c)))
 
   -- parts of a `for`
-  for_parts : (ss us : List Span) (i t t' u u' b b' : Tree) (c : Context) → ((e : Context) → Refines (turns n (does t) (does b) (copies (copied_names i)) (does u) e) (turns n (does t') (does b') (copies (copied_names i)) (does u') e)) → Refines (does (node For ss (i ⊳ t ⊳ u ⊳ b ⊳ ε)) c) (does (node For us (i ⊳ t' ⊳ u' ⊳ b' ⊳ ε)) c)
+  pub for_parts : (ss us : List Span) (i t t' u u' b b' : Tree) (c : Context) → ((e : Context) → Refines (turns n (does t) (does b) (copies (copied_names i)) (does u) e) (turns n (does t') (does b') (copies (copied_names i)) (does u') e)) → Refines (does (node For ss (i ⊳ t ⊳ u ⊳ b ⊳ ε)) c) (does (node For us (i ⊳ t' ⊳ u' ⊳ b' ⊳ ε)) c)
   for_parts ss us i t t' u u' b b' c h = refines_trans (refines_path (for_runs ss i t u b c)) (refines_trans (shell_refines (head_names i) (copied_names i) (does i) (does i) _ _ (λ e. refines_same _) h c) (refines_path (sym (for_runs us i t' u' b' c))))
 
   pub statement_run : {t : Tree} {us : Forest} → StatementStep mark t us → (c : Context) → Refines (drop (does t c)) (runs us c)

@@ -18,13 +18,14 @@ use Rattle.walk_proofs.specs.Plain.{NodeRight, does_same, default_goes}
 use Rattle.pass_proofs.proofs.Defaults.{void_is_undefined}
 use Rattle.branch_proofs.proofs.Labelled.{expression_inside}
 use Rattle.branch_rules.specs.Expressions.{ExpressionStep, front, itself, same_arms, in_guard}
-use Rattle.branch_rules.specs.Once.{DoStep, do_once, OnceRun, whole, a_jump, inside}
-use Rattle.branch_rules.specs.Removes.{BranchStep, statement, once, cases, Removes, of_expression, of_statement, of_default, followed}
+use Rattle.branch_rules.specs.Once.{DoStep, do_once}
+use Rattle.branch_rules.specs.Removes.{BranchStep, statement, once, within, cases, Removes, of_expression, of_statement, of_default, followed}
 use Rattle.branch_rules.specs.Statements.{as_statement, gives_nothing, all_give_nothing, Chooses, only_arm, no_arm, then_arm, else_arm, StatementStep, expression, choose, else_goes, branch_goes, while_true, while_false, while_never, for_first, for_update, for_true, for_false, for_no_update, for_no_body, for_never, do_true, label_empty, label_left, block_empty, block_one, try_inside, try_beside, try_alone, try_block}
 use Rattle.branch_rules.specs.Switches.{SwitchStep, nothing_left, only_default, only_default_apart, selected_case, selected_default, none_selected, leading_go}
+use Rattle.branch_rules.specs.Within.{WithinStep, while_within, do_within, for_within}
 use Rattle.branch_proofs.proofs.Becoming.{Becomes, SameVars}
 use Rattle.branch_proofs.proofs.Declared.{statement_vars}
-use Rattle.branch_proofs.proofs.DoOnce.{do_becomes, do_vars}
+use Rattle.branch_proofs.proofs.DoOnce.{do_becomes, do_stands, do_vars}
 use Rattle.branch_proofs.proofs.Expressions.{expression_exact}
 use Rattle.branch_proofs.proofs.Places.{becomes_exact, as_no_part, statement_fits}
 use Rattle.branch_proofs.proofs.Statements.{statement_becomes, try_nothing}
@@ -33,6 +34,7 @@ use Rattle.branch_proofs.proofs.Switches.{switch_becomes}
 use Rattle.branch_proofs.proofs.Tests.{alone_stands, statements_joined}
 use Rattle.branch_proofs.proofs.Undefined.{Nothing, statement_nothing}
 use Rattle.branch_proofs.proofs.Vars.{vars_stand}
+use Rattle.branch_proofs.proofs.Within.{within_becomes, within_vars}
 
 -- statements
 
@@ -41,14 +43,6 @@ arms_stand (only_arm a) h = h
 arms_stand (no_arm a) h = refl
 arms_stand (then_arm a b) h = and_from (gives_nothing a) true (and_parts (gives_nothing a) _ h).0 refl
 arms_stand (else_arm a b) h = (and_parts (gives_nothing a) _ h).1
-
-once_stands : {b : Tree} {us : Forest} → OnceRun b us → all_give_nothing us ≡ true
-once_stands (whole b p g h) = and_from (gives_nothing b) true g refl
-once_stands (a_jump t g) = refl
-once_stands (inside bs us ts t rest h g f) = refl
-
-do_stands : {mark : ℕ} {t : Tree} {us : Forest} → DoStep mark t us → all_give_nothing us ≡ true
-do_stands (do_once ss b t e p k o) = once_stands o
 
 switch_stands : {mark : ℕ} {t : Tree} {us : Forest} → SwitchStep mark t us → all_give_nothing us ≡ true
 switch_stands (nothing_left ss t ks {es} {vs} h g p r e a q) = statements_joined es vs (alone_stands a) (vars_stand q)
@@ -114,8 +108,13 @@ module _ {mark : ℕ} (rs : List Span) where
   statement_same (try_alone p ss bs fs h q) = tried p ss bs h (node Absent fs ε) refl (try_alone p ss bs fs h q) (vars_stand q)
   statement_same {t} {us} (try_block ss bs hs fs cs) = plainly t us refl refl refl refl (statement_vars {mark = mark} (try_block ss bs hs fs cs)) (statement_becomes (try_block ss bs hs fs cs))
 
-  do_same : {t : Tree} {us : Forest} → DoStep mark t us → Same mark t (as_statement rs us)
+  do_same : {t : Tree} {us : Forest} → DoStep mark true t us → Same mark t (as_statement rs us)
   do_same {t} {us} (do_once ss b a e p k o) = let s = do_once ss b a e p k o in plainly t us refl refl refl (do_stands s) (do_vars s) (do_becomes s)
+
+  within_same : {t : Tree} {us : Forest} → WithinStep mark t us → Same mark t (as_statement rs us)
+  within_same {t} {us} (while_within ss xs a w) = let s = while_within ss xs a w in plainly t us refl refl refl refl (within_vars s) (within_becomes s)
+  within_same {t} {us} (do_within ss xs a w) = let s = do_within ss xs a w in plainly t us refl refl refl refl (within_vars s) (within_becomes s)
+  within_same {t} {us} (for_within ss xs i a v w) = let s = for_within ss xs i a v w in plainly t us refl refl refl refl (within_vars s) (within_becomes s)
 
   of_switch : {t : Tree} {us : Forest} → gives_nothing t ≡ true → is_part (label_of t) ≡ false → is_item (label_of t) ≡ false → SwitchStep mark t us → Same mark t (as_statement rs us)
   of_switch {t} {us} h p i s = plainly t us h p i (switch_stands s) (switch_vars s) (switch_becomes s)
@@ -132,6 +131,7 @@ module _ {mark : ℕ} (rs : List Span) where
   pub branch_same : {t : Tree} {us : Forest} → BranchStep mark t us → Same mark t (as_statement rs us)
   branch_same (statement s) = statement_same s
   branch_same (once s) = do_same s
+  branch_same (within s) = within_same s
   branch_same (cases s) = switch_same s
 
 -- expressions

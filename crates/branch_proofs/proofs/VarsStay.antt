@@ -16,9 +16,10 @@ use Rattle.static_proofs.proofs.Together.{list_spares}
 use Rattle.static_proofs.proofs.Vars.{loses_none}
 use Rattle.walk_proofs.specs.Finished.{Does, at_front, at_node, at_list, at_both}
 use Rattle.branch_rules.specs.Once.{do_once}
-use Rattle.branch_rules.specs.Removes.{BranchStep, statement, once, cases, Removes, of_expression, of_statement, of_default, followed, remove_pass}
+use Rattle.branch_rules.specs.Removes.{BranchStep, statement, once, within, cases, Removes, of_expression, of_statement, of_default, followed, remove_pass}
 use Rattle.branch_rules.specs.Statements.{StatementStep, expression, choose, else_goes, branch_goes, while_true, while_false, while_never, for_first, for_update, for_true, for_false, for_no_update, for_no_body, for_never, do_true, label_empty, label_left, block_empty, block_one, try_inside, try_beside, try_alone, try_block}
 use Rattle.branch_rules.specs.Switches.{ShedStep, leading_shed, selected_shed, SwitchStep, nothing_left, only_default, only_default_apart, selected_case, selected_default, none_selected, leading_go}
+use Rattle.branch_rules.specs.Within.{while_within, do_within, for_within}
 use Rattle.branch_proofs.proofs.Steps.{is_source, step_source}
 use Rattle.branch_rules.specs.Lists.{Tidied, kept_names}
 use Rattle.branch_proofs.proofs.Owes.{Opened, hollow, unwrap, list_opens, opened_after, removes_owes}
@@ -111,6 +112,9 @@ switch_below (leading_go ss us xs d v fs ks h g e r i q o w) = refl
 branch_below : {mark : ℕ} {t : Tree} {us : Forest} → BranchStep mark t us → is_whole (label_of t) ≡ false
 branch_below (statement s) = statement_below s
 branch_below (once (do_once ss b t q p k o)) = refl
+branch_below (within (while_within ss rs t w)) = refl
+branch_below (within (do_within ss rs t w)) = refl
+branch_below (within (for_within ss rs i t v w)) = refl
 branch_below (cases s) = switch_below s
 
 -- no step is at a module or a script

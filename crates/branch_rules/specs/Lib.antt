@@ -5,6 +5,7 @@ pub mod Statements
 pub mod Jumps
 pub mod Once
 pub mod Switches
+pub mod Within
 pub mod Lists
 pub mod Removes
 pub mod Turns

@@ -14,11 +14,13 @@ use Rattle.branch_rules.specs.Lists.{Tidied, kept_names}
 use Rattle.branch_rules.specs.Once.{DoStep}
 use Rattle.branch_rules.specs.Statements.{as_statement, StatementStep}
 use Rattle.branch_rules.specs.Switches.{ShedStep, SwitchStep}
+use Rattle.branch_rules.specs.Within.{WithinStep}
 
 -- some statements in the place of one
 pub data BranchStep (mark : ℕ) : Tree → Forest → Type 0 where
   statement : {t : Tree} {us : Forest} → StatementStep mark t us → BranchStep mark t us
-  once : {t : Tree} {us : Forest} → DoStep mark t us → BranchStep mark t us
+  once : {t : Tree} {us : Forest} → DoStep mark true t us → BranchStep mark t us
+  within : {t : Tree} {us : Forest} → WithinStep mark t us → BranchStep mark t us
   cases : {t : Tree} {us : Forest} → SwitchStep mark t us → BranchStep mark t us
 
 -- what a node becomes: one of the rules, or several one behind another

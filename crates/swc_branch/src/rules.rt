@@ -13,8 +13,9 @@ ghost use Rattle.branch_rules.specs.Removes.{remove_pass};
 
 use crate::expressions::fold_expr;
 use crate::places::is_cramped;
-use crate::statements::{finish_for, fold_stmt, is_for, open_stmt};
+use crate::statements::{finish_for, fold_stmt, is_loop, open_stmt};
 use branch_lists::{tidy_items, tidy_statements};
+use branch_loops::run_within;
 use pass_places::{drop_default, is_delete, shielded};
 use std::alloc::{AllocError, Global};
 use swc_ast::{Expr, ModuleItem, Pat, Stmt};
@@ -29,18 +30,19 @@ pub(crate) struct BranchRules {
 }
 
 impl BranchRules {
-    /// A `for` whose children are walked: all of its rules, in one visit.
-    fn leave_for(&self, s: &mut Stmt) -> Result<bool, AllocError>
+    /// A loop whose children are walked: each `do` in its body, and then its own rules; those of a `for` in one visit.
+    fn leave_loop(&self, s: &mut Stmt) -> Result<bool, AllocError>
         requires { is_list (label_of (stmt_tree s.old)) ≡ false }
         ensures { IfOk result (λ changed. Became (remove_pass (unresolved self.now.ctx)) changed (stmt_tree s.old) (stmt_tree s.new)) }
     {
+        let within = run_within(self.alloc, &self.ctx, s)?;
         match fold_stmt(self.alloc, &self.ctx, s)? {
             Some(turned) => {
                 *s = turned;
                 finish_for(self.alloc, &self.ctx, s)?;
                 Ok(true)
             }
-            None => Ok(false),
+            None => Ok(within),
         }
     }
 }
@@ -83,8 +85,8 @@ impl Rules for BranchRules {
     }
 
     fn leave_stmt(&self, s: &mut Stmt) -> Result<bool, AllocError> {
-        if is_for(s) {
-            return self.leave_for(s);
+        if is_loop(s) {
+            return self.leave_loop(s);
         }
         match fold_stmt(self.alloc, &self.ctx, s)? {
             Some(turned) => {

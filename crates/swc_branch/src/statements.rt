@@ -62,12 +62,14 @@ pub(crate) fn open_stmt(alloc: Global, ctx: &ExprCtx, s: &mut Stmt) -> Result<bo
 /// As many rules at most take a `for` behind the first one: on its first part, its update, its test and its body.
 const FURTHER: usize = 5;
 
-/// Whether a statement is a `for`.
+/// Whether a statement is a loop.
 #[tactic(auto, using(swc_ast::proofs::Equations::forms))]
-pub(crate) fn is_for(s: &Stmt) -> bool
+pub(crate) fn is_loop(s: &Stmt) -> bool
     ensures { IsTrue result → is_list (label_of (stmt_tree s.now)) ≡ false }
 {
     match s {
+        Stmt::While(_) => true,
+        Stmt::DoWhile(_) => true,
         Stmt::For(_) => true,
         _ => false,
     }
