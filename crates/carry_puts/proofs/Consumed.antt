@@ -2,7 +2,7 @@
 use Rattle.std.proofs.Common.{◌≡◌, Bool, true, false, not, ◌&&◌, if◌then◌else◌, List, [], ◌∷◌, ◌++◌, Some, refl, sym, ap, ◌∙◌}
 use Rattle.std.proofs.lemmas.Bool.{and_parts, or_from, or_right, false≢true, true≢false}
 use Rattle.std.proofs.lemmas.List.{append_assoc}
-use Rattle.swc_ast.specs.Labels.{is_name, is_expression}
+use Rattle.swc_ast.specs.Labels.{is_name as is_read, is_expression}
 use Rattle.swc_ast.specs.declared.Span.{Span}
 use Rattle.swc_ast.specs.declared.UnaryOp.TheVariants as op
 use Rattle.swc_ast.specs.Expressions.{unary_node}
@@ -148,7 +148,7 @@ module _ (p : Pass) (F : Facts) where
   first_of : (s : Carried) (t : Tree) (ts : Forest) (rest : List Put) → (reads_all p F s (t ⊳ ts)) ++ rest ≡ reads p F s t ++ (reads_all p F (after p F s t) ts ++ rest)
   first_of s t ts rest = append_assoc (reads p F s t) (reads_all p F (after p F s t) ts) rest
 
-  node_enters : (l : Label) (ss : List Span) (cs : Forest) (k : List Put) (o : Spot) → is_name l ≡ false → stays p l ≡ false → walk.put putting (node l ss cs) (p, k) o ≡ walk.around putting (p, k) l ss cs (steps putting cs)
+  node_enters : (l : Label) (ss : List Span) (cs : Forest) (k : List Put) (o : Spot) → is_read l ≡ false → stays p l ≡ false → walk.put putting (node l ss cs) (p, k) o ≡ walk.around putting (p, k) l ss cs (steps putting cs)
   unfolding walk.put
   node_enters (tree.Read y) ss cs k o e i = absurd (true≢false e)
   node_enters l ss cs k o e i = by (is_expression l)
@@ -256,7 +256,7 @@ module _ (p : Pass) (F : Facts) where
       ∙ parts_put p F l ss cs r i e w (enter p F l ss cs s) rest (clear_entered p F s l ss cs c) (or_from s.quiet (is_exempt p l) q i)
       ∙ ap (λ g. (replaced g l ss (placed_all p F (enter p F l ss cs s) cs), (p, rest))) (sym (puts_none p s l r))
     where
-      unread : (l : Label) → asks_nothing l ≡ true → is_name l ≡ false
+      unread : (l : Label) → asks_nothing l ≡ true → is_read l ≡ false
       unread (tree.Read x) e = absurd (false≢true e)
       unread l e = refl
 

@@ -1,11 +1,13 @@
 -- What is gathered of an item describes it.
-use Rattle.std.proofs.Common.{ℕ, ◌≡◌, ◌⊎◌, inl, inr, Bool, true, false, not, ◌||◌, List, [], ◌∷◌, ◌++◌, refl, sym, ap, subst, ◌∙◌, append_assoc}
+use Rattle.std.proofs.Common.{ℕ, ◌≡◌, ◌⊎◌, inl, inr, Bool, true, false, not, ◌||◌, List, [], ◌∷◌, ◌++◌, refl, sym, ap, subst, ◌∙◌, append_assoc, length, ◌<◌, arith}
 use Rattle.std.proofs.lemmas.List.{append-nil}
+use Rattle.swc_ast.specs.Parts.{list_trees}
 use Rattle.swc_ast.specs.Run.{has_text}
 use Rattle.swc_ast.specs.Scope.{has_name}
 use Rattle.swc_ast.specs.Tree.{Text, Name, Label, Module, Tree, node, Forest, ε, ◌⊳◌, label_of, children_of}
 use Rattle.tree_visit.specs.Kinds.{kind_label}
-use Rattle.tree_visit.specs.Nodes.{children_forest}
+use Rattle.tree_visit.specs.declared.node.Node.{Node}
+use Rattle.tree_visit.specs.Nodes.{children_forest, node_tree}
 use Rattle.dce_uses.specs.Tables.{Tells, is_free}
 use Rattle.dce_peel.specs.declared.item.Item.{Item}
 use Rattle.dce_peel.specs.Rounds.{among}
@@ -86,3 +88,8 @@ goes_on mark retained names now new all us t ts i is pushed d h = record {
 
 pub done : (mark : ℕ) (retained : List Text) (names : List Name) (now : List Item) (all us : Forest) → us ≡ ε → Left mark retained names now all us → AllDescribed mark retained names all now
 done mark retained names now all us is h = subst (λ (js : List Item). AllDescribed mark retained names all js) (append-nil now) (h.gives [] (subst (λ (vs : Forest). AllDescribed mark retained names vs []) (sym is) tt))
+
+-- the same where items in a row are done
+pub done_row : (mark : ℕ) (retained : List Text) (names : List Name) (now : List Item) (all : Forest) (left : List Node) → length left < 1 → Left mark retained names now all (list_trees node_tree left) → AllDescribed mark retained names all now
+done_row mark retained names now all [] l h = done mark retained names now all ε refl h
+done_row mark retained names now all (x ∷ xs) l h = absurd (omega (arith, l))

@@ -5,3 +5,8 @@ pub mod Describing
 pub mod Laying
 pub mod Sizes
 pub mod Dividing
+pub mod Wrapping
+pub mod Rows
+pub mod Beside
+pub mod Leaving
+pub mod Replacing

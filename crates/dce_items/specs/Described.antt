@@ -5,8 +5,9 @@ use Rattle.swc_ast.specs.Scope.{has_name, default_name}
 use Rattle.swc_ast.specs.Tree.{Text, Name, same_name, Tree, Forest, ε, ◌⊳◌, label_of, children_of}
 use Rattle.dce_peel.specs.declared.item.Item.{Item}
 use Rattle.dce_peel.specs.Rounds.{among}
+use Rattle.dce_layer_proofs.specs.Frames.{Frame}
 use Rattle.dce_layer_proofs.specs.Goers.{goes_with, inner_goers, is_void_item, tight}
-use Rattle.dce_layer_proofs.specs.Layers.{Layers, items, notes, AllPlaced, has_layer}
+use Rattle.dce_layer_proofs.specs.Layers.{Layers, items, notes, Peels}
 
 -- A name has a number. That of a default export without a name has none.
 pub record IsNumber (names : List Name) (x : Name) (n : ℕ) : Type 0 where
@@ -43,8 +44,8 @@ abbrev pub layered : Forest → List ℕ → Layers
 layered (t ⊳ ts) (r ∷ rs) = (t, r) ∷ layered ts rs
 layered ts rs = []
 
--- Each item of a list has the layer where it belongs, and each of so many rounds takes one.
-pub record IsLayered (mark : ℕ) (retained : List Text) (rounds : ℕ) (ts : Forest) (layers : List ℕ) : Type 0 where
+-- Each item of a list has the layer where it belongs, beside the module's other items, which stay, and each of so many rounds takes one.
+pub record IsLayered (mark : ℕ) (retained : List Text) (rounds : ℕ) (F : Frame) (ts : Forest) (layers : List ℕ) : Type 0 where
   pub whole : items (layered ts layers) ≡ ts
-  pub placed : AllPlaced mark retained (layered ts layers) rounds (layered ts layers)
-  pub reaches : has_layer rounds (layered ts layers) ≡ true
+  pub others : Layers
+  pub peels : Peels mark retained rounds F others (layered ts layers)

@@ -1,2 +1,4 @@
 pub mod Described
 pub mod Gathered
+pub mod Wrapped
+pub mod Remaining

@@ -4,7 +4,7 @@ use dce_uses::{declared_name, function_name, is_read, named};
 use std::alloc::{AllocError, Global};
 use swc_ast::Ident;
 use swc_names::Names;
-use tree_visit::{Children, Kind, Opened};
+use tree_visit::{Children, Kind, Node, Opened};
 
 /// Names by their numbers, while nodes are read.
 #[derive(Drop)]
@@ -101,20 +101,17 @@ impl<'a> Reader<'a> {
     }
 }
 
-/// How each item of a list reads, writes and declares names; the reads of a function's name inside its declaration aside. Fails
+/// How each of some items reads, writes and declares names; the reads of a function's name inside its declaration aside. Fails
 /// where memory is refused.
-#[tactic(auto, using(tree_visit::proofs::Caps::rest_falls))]
 pub(crate) fn accesses_of(
     alloc: Global,
     names: &Names,
-    items: Children<'_>,
+    items: &[Node<'_>],
 ) -> Result<Vec<Access>, AllocError> {
     let mut reader = Reader::new(alloc, names)?;
     let mut accesses = Vec::new(alloc);
-    let mut left = items;
-    while let Some((item, rest)) = left.next() {
+    for item in items {
         accesses.push(reader.access_of(alloc, item.open())?)?;
-        left = rest;
     }
     Ok(accesses)
 }

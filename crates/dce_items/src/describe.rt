@@ -1,8 +1,9 @@
 //! Items by numbers of names.
 ghost use Rattle.std.specs.Prelude.{◌≡◌, IfOk, IfErr, IfSome};
+ghost use Rattle.swc_ast.specs.Parts.{list_trees};
 ghost use Rattle.swc_ast.specs.declared.errors.PassError.TheVariants.{OutOfMemory};
 ghost use Rattle.swc_utils.specs.Globals.{unresolved};
-ghost use Rattle.tree_visit.specs.Nodes.{node_tree, children_forest};
+ghost use Rattle.tree_visit.specs.Nodes.{node_tree};
 ghost use Rattle.dce_items.specs.Described.{AllDescribed, Describes};
 
 use crate::kinds::{is_asm, is_void};
@@ -14,7 +15,7 @@ use std::alloc::Global;
 use swc_ast::PassError;
 use swc_names::Names;
 use swc_utils::ExprCtx;
-use tree_visit::{Children, Node};
+use tree_visit::Node;
 
 /// An item by numbers of names. Nothing where something else than a name goes in it in any case, and where it is `'use asm'`.
 fn describe(
@@ -56,21 +57,21 @@ fn describe(
 }
 
 /// Items by numbers of names. Nothing where something else than a name goes in one in any case.
-#[tactic(auto, using(tree_visit::proofs::Caps::rest_falls, crate::proofs::Describing::begins, crate::proofs::Describing::goes_on, crate::proofs::Describing::done))]
+#[tactic(auto, using(crate::proofs::Describing::begins, crate::proofs::Describing::goes_on, crate::proofs::Describing::done))]
 pub(crate) fn describe_all(
     alloc: Global,
     names: &Names,
     retained: &Retained<'_>,
     ctx: &ExprCtx,
-    items: Children<'_>,
+    items: &[Node<'_>],
 ) -> Result<Option<Vec<Item>>, PassError>
-    ensures described { IfOk result (λ o. IfSome o (λ v. AllDescribed (unresolved ctx.now) retained.now names.now (children_forest items.entry) v.items)) }
+    ensures described { IfOk result (λ o. IfSome o (λ v. AllDescribed (unresolved ctx.now) retained.now names.now (list_trees node_tree items.now) v.items)) }
     ensures memory { IfErr result (λ e. e ≡ OutOfMemory) }
 {
     let mut described = Vec::new(alloc);
     let mut left = items;
-    while let Some((item, rest)) = left.next() {
-        let Some(found) = describe(alloc, names, retained, ctx, item)? else {
+    while let [item, rest @ ..] = left {
+        let Some(found) = describe(alloc, names, retained, ctx, *item)? else {
             return Ok(None);
         };
         described.push(found)?;

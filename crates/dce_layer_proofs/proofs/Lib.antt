@@ -1,7 +1,10 @@
+pub mod Rows
 pub mod Quiet
 pub mod Kept
 pub mod Mentioned
 pub mod Live
+pub mod Framed
 pub mod Parts
 pub mod Going
 pub mod Rounds
+pub mod Peeled

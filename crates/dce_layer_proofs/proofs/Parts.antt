@@ -4,11 +4,11 @@ use Rattle.std.proofs.lemmas.List.{append-nil}
 use Rattle.swc_ast.specs.declared.Span.{Span}
 use Rattle.swc_ast.specs.declared.VarDeclKind.{VarDeclKind}
 use Rattle.swc_ast.specs.Scope.{has_name}
-use Rattle.swc_ast.specs.Tree.{Name, same_name, VarDecl, Declarator, Tree, node, Forest, ε, ◌⊳◌, label_of, children_of}
+use Rattle.swc_ast.specs.Tree.{Name, same_name, VarDecl, Declarator, FnDecl, Tree, node, Forest, ε, ◌⊳◌, label_of, children_of}
 use Rattle.static_proofs.proofs.Names.{same_name_path}
 use Rattle.dce_rules.specs.Shakes.{Shaker}
 use Rattle.dce_layer_proofs.specs.Goers.{goers, goers_among, is_pure_init, goes_with, inner_goers}
-use Rattle.dce_layer_proofs.proofs.Quiet.{Quiet}
+use Rattle.dce_layer_proofs.proofs.Quiet.{Quiet, Held}
 
 -- the name, if there is one, doesn't go
 abbrev pub Still : Shaker → Option Name → Type 0
@@ -34,3 +34,8 @@ module _ {S : Shaker} where
   pub quiet_whole : (mark : ℕ) (t : Tree) → Still S (goes_with mark (label_of t) (children_of t)) → Quiet S (inner_goers mark (label_of t) (children_of t)) → Quiet S (goers t)
   quiet_whole mark (node (VarDecl k) ss (node (Declarator j x) rs cs ⊳ ε)) w q = variable_quiet (is_pure_init mark cs) j x rs cs w q
   quiet_whole mark (node l ss cs) w q = q
+
+-- nor does the function that it declares, where the one doesn't
+pub held_still : (S : Shaker) (mark : ℕ) (t : Tree) → Still S (goes_with mark (label_of t) (children_of t)) → Held S (label_of t)
+held_still S mark (node (FnDecl f) ss cs) w = w
+held_still S mark (node l ss cs) w = tt

@@ -1,19 +1,19 @@
 -- Layers go one by one, and everything else rests.
 use Rattle.std.proofs.Common.{ℕ, zero, suc, ◌+◌, ◌-◌, ◌<◌, ◌≤◌, ◌≡◌, inl, inr, Bool, true, false, ◌||◌, if◌then◌else◌, List, [], ◌∷◌, Option, Some, None, refl, sym, ap, subst, ◌∙◌, arith}
 use Rattle.std.specs.Prelude.{nat_lt}
-use Rattle.std.proofs.lemmas.Bool.{false≢true, ltb-true, ltb-false}
-use Rattle.swc_ast.specs.declared.Span.{Span}
-use Rattle.swc_ast.specs.Tree.{Text, Name, Module, Tree, node, Forest, ε, ◌⊳◌, label_of, children_of}
+use Rattle.std.proofs.lemmas.Bool.{false≢true, or_from, ltb-true, ltb-false}
+use Rattle.swc_ast.specs.Tree.{Text, Name, Label, Module, Tree, node, Forest, ε, ◌⊳◌, label_of, children_of}
 use Rattle.swc_ast.specs.Valid.{count}
-use Rattle.tree_walk.specs.Walks.{Walks, AllWalk, nothing, both, tidied, Whole, whole}
+use Rattle.tree_walk.specs.Walks.{Walks, AllWalk, nothing, both, ListMade, tidied}
 use Rattle.walk_proofs.specs.Meant.{Sifts, sifted, stays_there, goes_there}
-use Rattle.dce_rules.specs.Shakes.{Shaker, ItemGoes, items_go, shake_pass}
-use Rattle.dce_layer_proofs.specs.Goers.{goes_with, inner_goers}
-use Rattle.dce_layer_proofs.specs.Layers.{Layers, live, Stays, Leaves, Waits, Placed, AllPlaced, has_layer}
-use Rattle.dce_layer_proofs.specs.Walked.{shaker_at}
+use Rattle.dce_rules.specs.Shakes.{Shaker, item_goes, some_item_goes, ItemGoes, items_go, shake_pass}
+use Rattle.dce_rules.specs.Uses.{free_to_go}
+use Rattle.dce_layer_proofs.specs.Goers.{goers, goes_with, inner_goers}
+use Rattle.dce_layer_proofs.specs.Layers.{Layers, items, live, Stays, Leaves, Waits, Placed, AllPlaced, has_layer, AllStay}
+use Rattle.dce_layer_proofs.specs.Walked.{shaker_of}
 use Rattle.dce_layer_proofs.proofs.Live.{attained, kept}
-use Rattle.dce_layer_proofs.proofs.Quiet.{Quiet, walks}
-use Rattle.dce_layer_proofs.proofs.Parts.{Still, quiet_whole}
+use Rattle.dce_layer_proofs.proofs.Quiet.{Quiet, item_still, walks}
+use Rattle.dce_layer_proofs.proofs.Parts.{Still, quiet_whole, held_still}
 use Rattle.dce_layer_proofs.proofs.Going.{Went, went}
 
 -- what stays up to a round, stays before
@@ -22,27 +22,40 @@ stays_before retained ps rounds r s x h (inl e) = inl e
 stays_before retained ps rounds r s x h (inr (inl k)) = inr (inl (omega (arith, h, k)))
 stays_before retained ps rounds r s x h (inr (inr k)) = inr (inr k)
 
-module _ (mark : ℕ) (drops : Bool) (retained : List Text) (ss : List Span) (all : Layers) (rounds : ℕ) where
+-- The shaker walks a module in front of each round, of which it knows what it would of the items that are left then.
+module _ (mark : ℕ) (drops : Bool) (retained : List Text) (at : ℕ → Tree) (all : Layers) (rounds : ℕ) (frees : (r : ℕ) → r ≤ rounds → (x : Name) → free_to_go retained (at r) x ≡ free_to_go retained (node Module [] (live r all)) x) where
   abbrev S : ℕ → Shaker
-  S r = shaker_at mark drops retained ss all r
+  S r = shaker_of mark drops retained (at r)
 
   abbrev Well : Tree → ℕ → Type 0
   Well t n = Placed mark retained all rounds t n
 
+  stays : (r : ℕ) (x : Name) → 0 < r → r ≤ rounds → Stays retained all rounds r x → free_to_go retained (at r) x ≡ false
+  stays r x s m h = frees r m x ∙ kept retained [] rounds r all x s m h
+
   -- one item
   quiet_below : (r : ℕ) (t : Tree) (n : ℕ) → 0 < r → r ≤ rounds → r ≤ n → Well t n → Quiet (S r) (inner_goers mark (label_of t) (children_of t))
-  quiet_below r t n s m h p = record { still = λ x i. kept retained ss rounds r all x s m (stays_before retained all rounds n r x h (p.goers x i)) }
+  quiet_below r t n s m h p = record { still = λ x i. stays r x s m (stays_before retained all rounds n r x h (p.goers x i)) }
 
   still_at : (r : ℕ) (o : Option Name) → 0 < r → r ≤ rounds → Waits retained all rounds r o → Still (S r) o
-  still_at r (Some x) s m w = kept retained ss rounds r all x s m w
+  still_at r (Some x) s m w = stays r x s m w
   still_at r None s m w = tt
 
+  one_still : (r : ℕ) (t : Tree) (n : ℕ) → 0 < r → r ≤ rounds → r < n → Well t n → Still (S r) (goes_with mark (label_of t) (children_of t))
+  one_still r t n s m h p = still_at r (goes_with mark (label_of t) (children_of t)) s m (p.waits r h)
+
+  one_quiet : (r : ℕ) (t : Tree) (n : ℕ) → 0 < r → r ≤ rounds → r < n → Well t n → Quiet (S r) (goers t)
+  one_quiet r t n s m h p = quiet_whole mark t (one_still r t n s m h p) (quiet_below r t n s m (omega (arith, h)) p)
+
   item_rests : (r : ℕ) (t : Tree) (n : ℕ) → 0 < r → r ≤ rounds → r < n → Well t n → Walks (shake_pass (S r)) false t t
-  item_rests r t n s m h p = walks (S r) t p.tight (quiet_whole mark t (still_at r (goes_with mark (label_of t) (children_of t)) s m (p.waits r h)) (quiet_below r t n s m (omega (arith, h)) p))
+  item_rests r t n s m h p = walks (S r) t p.tight (one_quiet r t n s m h p)
+
+  item_stays : (r : ℕ) (t : Tree) (n : ℕ) → 0 < r → r ≤ rounds → r < n → Well t n → item_goes (S r) t ≡ false
+  item_stays r t n s m h p = item_still t p.solid (held_still (S r) mark t (one_still r t n s m h p)) (one_quiet r t n s m h p)
 
   item_went : (r : ℕ) (t : Tree) (n : ℕ) → 0 < r → r ≤ rounds → n ≡ r → Well t n → Went (S r) t
   item_went r t n s m is p =
-      went mark drops retained ss all r t p.tight (quiet_below r t n s m (omega (arith, is)) p) (subst (λ k. Leaves retained all k (goes_with mark (label_of t) (children_of t))) is (p.goes (omega (arith, is, m))))
+      went mark drops retained (at r) all r (frees r m) t p.tight (quiet_below r t n s m (omega (arith, is)) p) (subst (λ k. Leaves retained all k (goes_with mark (label_of t) (children_of t))) is (p.goes (omega (arith, is, m))))
 
   -- Items are walked, and those that go are gone.
   record Passed (r : ℕ) (ts us : Forest) : Type 0 where
@@ -108,6 +121,17 @@ module _ (mark : ℕ) (drops : Bool) (retained : List Text) (ss : List Span) (al
   each zero r e s h i = subst (λ n. has_layer n all ≡ true) (omega (arith, e)) i
   each (suc k) r e s h i = subst (λ n. has_layer n all ≡ true) (omega arith) (before (r + 1) all (omega (arith, s)) (omega (arith, e)) h (each k (r + 1) (omega (arith, e)) (omega arith) h i))
 
-  -- a round
-  pub round : (r : ℕ) → 0 < r → r ≤ rounds → AllPlaced mark retained all rounds all → has_layer rounds all ≡ true → Whole (shake_pass (S r)) true (node Module ss (live r all)) (node Module ss (live (r + 1) all))
-  round r s m h i = let w = walk_all r all s m h in whole refl (tidied w.walk (items_go w.sifts (differ r all w.between w.as_many (each (rounds - r) r (omega (arith, m)) s h i))))
+  -- items that stay in all rounds
+
+  pub rest_all : (r : ℕ) (ps : Layers) → 0 < r → r ≤ rounds → AllStay rounds ps → AllPlaced mark retained all rounds ps → AllWalk (shake_pass (S r)) false (items ps) (items ps)
+  rest_all r [] s m a h = nothing
+  rest_all r (p ∷ ps) s m a h = both (item_rests r p.0 p.1 s m (omega (arith, m, a.0)) h.0) (rest_all r ps s m a.1 h.1)
+
+  pub none_goes : (r : ℕ) (ps : Layers) → 0 < r → r ≤ rounds → AllStay rounds ps → AllPlaced mark retained all rounds ps → some_item_goes (S r) (items ps) ≡ false
+  none_goes r [] s m a h = refl
+  none_goes r (p ∷ ps) s m a h = or_from (item_goes (S r) p.0) (some_item_goes (S r) (items ps)) (item_stays r p.0 p.1 s m (omega (arith, m, a.0)) h.0) (none_goes r ps s m a.1 h.1)
+
+  -- a round of others
+
+  pub go_all : (l : Label) (r : ℕ) (ps : Layers) → 0 < r → r ≤ rounds → AllPlaced mark retained all rounds ps → has_layer r ps ≡ true → ListMade (shake_pass (S r)) l true (live r ps) (live (r + 1) ps)
+  go_all l r ps s m h i = let w = walk_all r ps s m h in tidied w.walk (items_go w.sifts (differ r ps w.between w.as_many i))

@@ -1,9 +1,10 @@
--- Items of a module in layers: in which round of the shaker each goes.
-use Rattle.std.specs.Prelude.{ℕ, ◌+◌, ◌≤◌, ◌<◌, ◌≡◌, ◌⊎◌, Bool, true, false, not, if◌then◌else◌, List, [], ◌∷◌, Option, Some, None, max, nat_lt}
+-- Items of a list in layers: in which round of the shaker each goes.
+use Rattle.std.specs.Prelude.{ℕ, ◌≤◌, ◌<◌, ◌≡◌, ◌⊎◌, Bool, true, false, not, if◌then◌else◌, List, [], ◌∷◌, ◌++◌, Option, Some, None, max, nat_lt}
 use Rattle.swc_ast.specs.Run.{has_text}
 use Rattle.swc_ast.specs.Scope.{has_name}
 use Rattle.swc_ast.specs.Tree.{Text, Name, Module, Tree, node, Forest, ε, ◌⊳◌, label_of, children_of}
 use Rattle.dce_rules.specs.Uses.{free_to_go}
+use Rattle.dce_layer_proofs.specs.Frames.{Frame, outer, FitsIn}
 use Rattle.dce_layer_proofs.specs.Goers.{goes_with, inner_goers, is_void_item, tight}
 
 -- items, each with the round in which it goes
@@ -62,10 +63,15 @@ abbrev pub has_layer : ℕ → Layers → Bool
 has_layer r [] = false
 has_layer r (p ∷ ps) = if nat_lt p.1 r then has_layer r ps else (if nat_lt r p.1 then has_layer r ps else true)
 
--- Items that go layer by layer in so many rounds, and what is left.
-pub record Peels (mark : ℕ) (retained : List Text) (rounds : ℕ) (ts us : Forest) : Type 0 where
-  pub layers : Layers
-  pub whole : items layers ≡ ts
-  pub left : us ≡ live (rounds + 1) layers
-  pub placed : AllPlaced mark retained layers rounds layers
-  pub reaches : 0 < rounds → has_layer rounds layers ≡ true
+-- Each of some items has a layer behind so many rounds.
+abbrev pub AllStay : ℕ → Layers → Type 0
+AllStay rounds [] = Unit {0}
+AllStay rounds (p ∷ ps) = (rounds < p.1) × AllStay rounds ps
+
+-- Items that stand somewhere in a module and go layer by layer in so many rounds, and the module's other items, which stay.
+pub record Peels (mark : ℕ) (retained : List Text) (rounds : ℕ) (F : Frame) (others layers : Layers) : Type 0 where
+  pub outside : items others ≡ outer F
+  pub fits : FitsIn F (items layers)
+  pub stay : AllStay rounds others
+  pub placed : AllPlaced mark retained (others ++ layers) rounds (others ++ layers)
+  pub reaches : has_layer rounds layers ≡ true

@@ -1,3 +1,4 @@
 pub mod Goers
+pub mod Frames
 pub mod Layers
 pub mod Walked

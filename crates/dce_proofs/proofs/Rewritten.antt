@@ -98,7 +98,7 @@ module _ {G K U : Name → Bool} {mark : ℕ} {drops : Bool} where
     unfolding parted
 
     pub rewrites : {t u : Tree} → Walked G K U mark drops t u → Unused G U t → Rewrites (names G K U) mark (eval mark) t u
-    rewrites (same_node l {ss} {rs} p s e sc h) q = node_rewrites G K U mark l ss rs (read_or_unseen U l) p s e sc (rewrites_each h) q
+    rewrites (same_node l {ss} {rs} p s e sc h) q = node_rewrites G K U mark l ss rs (read_or_unseen U l) p s e sc (rewrites_all h) q
     rewrites (same_list l {ss} {rs} p h) q = rebuilt_list l ss rs p (only_listed (rewrites_items h (below K l (stands_list G K l p) (list_read U l p) q)))
     rewrites (same_import src {ss} {rs} h) q = rebuilt_import src ss rs (narrowed G K U h)
     rewrites (declaration k {ss} {rs} h) q = first (exact_trims (parted_exact k ss h)) (parted_fits k ss h) (rebuilt_declarators k ss rs (rewrites_declarators h (below K (VarDecl k) tt tt q)))
@@ -108,9 +108,9 @@ module _ {G K U : Name → Bool} {mark : ℕ} {drops : Bool} where
     rewrites (opened m h) q = first (moves_trim G K U mark m) (moves_fit G K U mark m) (rewrites h (moves_unused G K U mark m q))
     rewrites (called {ss} {fs} {ps} {bs} {rs} {os} {t} {props} n h) q = last (rewrites h q) (called_exact mark ss fs ps bs rs os n) (fits_nothing (object_call ss fs ps bs rs os props) (node Object os props) refl refl)
 
-    rewrites_each : {ts us : Forest} → Each G K U mark drops ts us → AllUnused G U ts → All (names G K U) mark (eval mark) false ts us
-    rewrites_each none q = nil
-    rewrites_each (more h hs) q = cons (rewrites h (first_unused q)) (rewrites_each hs (rest_unused q))
+    rewrites_all : {ts us : Forest} → Each G K U mark drops ts us → AllUnused G U ts → All (names G K U) mark (eval mark) false ts us
+    rewrites_all none q = nil
+    rewrites_all (more h hs) q = cons (rewrites h (first_unused q)) (rewrites_all hs (rest_unused q))
 
     pub rewrites_items : {ts us : Forest} → Items G K U mark drops ts us → AllUnused G U ts → All (names G K U) mark (eval mark) true ts us
     rewrites_items no_item q = nil

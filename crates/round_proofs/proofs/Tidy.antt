@@ -1,9 +1,11 @@
 -- A list in which nothing is unreached or loose stays so where it loses items.
-use Rattle.std.proofs.Common.{ℕ, ◌≤◌, ◌≡◌, suc, Bool, true, false, if◌then◌else◌, nat_lt, [], ◌∷◌, refl, arith}
+use Rattle.std.proofs.Common.{ℕ, ◌≤◌, ◌≡◌, suc, Bool, true, false, ◌||◌, if◌then◌else◌, nat_lt, [], ◌∷◌, refl, ap, ap₂, ◌∙◌, arith}
 use Rattle.std.proofs.lemmas.Bool.{or_parts, or_from, ltb-true, ltb-false}
 use Rattle.swc_ast.specs.Redex.{is_loose, any_loose, list_redex}
+use Rattle.swc_ast.specs.Scope.{joined}
 use Rattle.swc_ast.specs.Tree.{Forest, ε, ◌⊳◌}
 use Rattle.swc_ast.specs.Weight.{is_stopper, stays_behind, movable, unreached}
+use Rattle.dce_layer_proofs.specs.Frames.{Wrapper, wrapped}
 use Rattle.dce_layer_proofs.specs.Layers.{Layers, items, live}
 
 -- none is loose
@@ -60,3 +62,20 @@ pub redex_left : (r : ℕ) (ps : Layers) → list_redex (items ps) ≡ false →
 redex_left r ps h =
     let q = or_parts (nat_lt 0 (unreached (items ps))) (any_loose (items ps)) h in
     or_from (nat_lt 0 (unreached (live r ps))) (any_loose (live r ps)) (none_below (unreached (live r ps)) (unreached (items ps)) (unreached_left r ps) q.0) (loose_left r ps q.1)
+
+-- beside a wrapper, whatever stands in that
+module _ (w : Wrapper) (behind ts us : Forest) where
+  movable_around : (before : Forest) → movable (joined before (wrapped w us ⊳ behind)) ≡ movable (joined before (wrapped w ts ⊳ behind))
+  movable_around ε = refl
+  movable_around (t ⊳ before) = ap (λ n. if stays_behind t then n else suc n) (movable_around before)
+
+  unreached_around : (before : Forest) → unreached (joined before (wrapped w us ⊳ behind)) ≡ unreached (joined before (wrapped w ts ⊳ behind))
+  unreached_around ε = refl
+  unreached_around (t ⊳ before) = ap₂ (λ m n. if is_stopper t then m else n) (movable_around before) (unreached_around before)
+
+  loose_around : (before : Forest) → any_loose (joined before (wrapped w us ⊳ behind)) ≡ any_loose (joined before (wrapped w ts ⊳ behind))
+  loose_around ε = refl
+  loose_around (t ⊳ before) = ap (λ b. is_loose t || b) (loose_around before)
+
+  pub redex_around : (before : Forest) → list_redex (joined before (wrapped w ts ⊳ behind)) ≡ false → list_redex (joined before (wrapped w us ⊳ behind)) ≡ false
+  redex_around before h = ap₂ (λ n b. nat_lt 0 n || b) (unreached_around before) (loose_around before) ∙ h

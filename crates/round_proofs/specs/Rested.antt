@@ -1,13 +1,12 @@
 -- Rounds in which the expression simplifier and the remover of dead branches rest.
-use Rattle.std.specs.Prelude.{ℕ, ◌≡◌, ◌<◌, true, false, List}
-use Rattle.swc_ast.specs.declared.Span.{Span}
+use Rattle.std.specs.Prelude.{ℕ, false}
 use Rattle.swc_ast.specs.Marks.{mark_number}
-use Rattle.swc_ast.specs.Tree.{Module, Tree, node, Forest}
+use Rattle.swc_ast.specs.Tree.{Tree}
 use Rattle.static_proofs.specs.Shaped.{IsShaped}
 use Rattle.swc_pass.specs.Repeat.{Rounds}
-use Rattle.dce_layer_proofs.specs.Layers.{Peels}
 use Rattle.swc_expr.specs.Simplified.{Simplified}
 use Rattle.swc_branch.specs.Removed.{Removed}
+use Rattle.swc_dce.specs.Peeling.{PeelsModule}
 use Rattle.swc_dce.specs.Shaken.{Told, Shaken}
 
 -- what both answer as it is
@@ -20,10 +19,10 @@ pub record Rested (told : Told) (t u : Tree) : Type 0 where
   pub rests : AtRest told t
   pub shakes : Shaken told t u
 
--- items in layers go in so many of these rounds
+-- what goes in layers goes in so many of these rounds
 abbrev pub LayersAreRounds : Type 0
-LayersAreRounds = (told : Told) (n : ℕ) (ss : List Span) (ts us : Forest) → told.top_level ≡ true → 0 < n → Peels (mark_number told.mark) told.retained n ts us → IsShaped (node Module ss ts) → AtRest told (node Module ss ts) → Rounds (Rested told) (node Module ss ts) n false (node Module ss us)
+LayersAreRounds = (told : Told) (n : ℕ) (t u : Tree) → PeelsModule told n t u → IsShaped t → AtRest told t → Rounds (Rested told) t n false u
 
 -- and both rest on what is left
 abbrev pub LayersLeaveRest : Type 0
-LayersLeaveRest = (told : Told) (n : ℕ) (ss : List Span) (ts us : Forest) → Peels (mark_number told.mark) told.retained n ts us → IsShaped (node Module ss ts) → AtRest told (node Module ss ts) → AtRest told (node Module ss us)
+LayersLeaveRest = (told : Told) (n : ℕ) (t u : Tree) → PeelsModule told n t u → IsShaped t → AtRest told t → AtRest told u

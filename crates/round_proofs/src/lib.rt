@@ -1,5 +1,5 @@
-//! Rounds of the simplifier in which nothing but functions and variables of a module's own list goes: the expression simplifier and
-//! the remover of dead branches rest in them, so each is a round of the tree shaker alone.
+//! Rounds of the simplifier in which nothing but functions and variables of one list goes, a module's own or that of a wrapper in
+//! it: the expression simplifier and the remover of dead branches rest in them, so each is a round of the tree shaker alone.
 #![tactic(auto)]
 
 ghost use Rattle.round_proofs.specs.Rested.{LayersAreRounds, LayersLeaveRest};

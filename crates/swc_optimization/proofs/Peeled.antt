@@ -1,34 +1,24 @@
 -- Rounds that are done at once are rounds in which the other passes rest.
-use Rattle.std.proofs.Common.{ℕ, zero, suc, ◌<◌, false, refl, sym, subst, arith}
+use Rattle.std.proofs.Common.{ℕ, zero, suc, false, refl, sym, subst, arith}
 use Rattle.swc_ast.specs.Modules.{module_tree}
-use Rattle.swc_ast.specs.Tree.{Module, Tree, node}
+use Rattle.swc_ast.specs.Tree.{Tree}
 use Rattle.swc_ast.specs.declared.modules.Module.{Module as TheModule}
 use Rattle.static_proofs.specs.Shaped.{IsShaped}
 use Rattle.static_proofs.proofs.ShapedViews.{module_shaped}
 use Rattle.swc_pass.specs.Repeat.{Rounds, none}
-use Rattle.swc_dce.specs.Peeling.{PeelsModule, PeeledBy}
+use Rattle.swc_dce.specs.Peeling.{PeeledBy}
 use Rattle.swc_dce.specs.Shaken.{Told}
 use Rattle.round_proofs.specs.Rested.{AtRest, Rested}
 use Rattle.round_proofs.proofs.Rounds.{layers_are_rounds, layers_leave_rest}
 
-module _ (told : Told) (n : ℕ) (t u : Tree) (s : IsShaped t) (a : AtRest told t) where
-  -- some rounds of a tree
-  some_rounds : 0 < n → PeelsModule told n t u → Rounds (Rested told) t n false u
-  some_rounds k p =
-      let all = layers_are_rounds told n p.spans p.before p.after p.top_level k p.peels (subst IsShaped p.whole s) (subst (AtRest told) p.whole a) in
-      subst (λ x. Rounds (Rested told) t n false x) (sym p.left) (subst (λ x. Rounds (Rested told) x n false (node Module p.spans p.after)) (sym p.whole) all)
-
-  some_rest : PeelsModule told n t u → AtRest told u
-  some_rest p = subst (AtRest told) (sym p.left) (layers_leave_rest told n p.spans p.before p.after p.peels (subst IsShaped p.whole s) (subst (AtRest told) p.whole a))
-
 -- some or none
 any_rounds : (told : Told) (most n : ℕ) (t u : Tree) → IsShaped t → AtRest told t → PeeledBy told most t n u → Rounds (Rested told) t n false u
 any_rounds told most zero t u s a p = subst (λ x. Rounds (Rested told) t 0 false x) (sym (p.none refl)) none
-any_rounds told most (suc n) t u s a p = some_rounds told (suc n) t u s a (omega arith) (p.some (omega arith))
+any_rounds told most (suc n) t u s a p = layers_are_rounds told (suc n) t u (p.some (omega arith)) s a
 
 any_rest : (told : Told) (most n : ℕ) (t u : Tree) → IsShaped t → AtRest told t → PeeledBy told most t n u → AtRest told u
 any_rest told most zero t u s a p = subst (AtRest told) (sym (p.none refl)) a
-any_rest told most (suc n) t u s a p = some_rest told (suc n) t u s a (p.some (omega arith))
+any_rest told most (suc n) t u s a p = layers_leave_rest told (suc n) t u (p.some (omega arith)) s a
 
 -- of a module
 pub peeled_rounds : (told : Told) (most n : ℕ) (m : TheModule) (u : Tree) → AtRest told (module_tree m) → PeeledBy told most (module_tree m) n u → Rounds (Rested told) (module_tree m) n false u

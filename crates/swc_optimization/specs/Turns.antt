@@ -1,4 +1,4 @@
--- What the simplifier's loop does at a time: a round, or several in which nothing but functions and variables of a module's own list goes.
+-- What the simplifier's loop does at a time: a round, or several in which nothing but functions and variables of one list goes.
 use Rattle.std.specs.Prelude.{ℕ, ◌<◌, ◌≤◌, Bool}
 use Rattle.swc_ast.specs.Marks.{mark_number}
 use Rattle.swc_ast.specs.Tree.{Tree}

@@ -1,4 +1,4 @@
-//! Rounds of the three passes. Rounds in which nothing but functions and variables of a module's own list goes are done at once.
+//! Rounds of the three passes. Rounds in which nothing but functions and variables of one list goes are done at once.
 ghost use Rattle.std.specs.Prelude.{◌≡◌, ◌<◌, ◌≤◌, ◌||◌, false, Some, IfOk, IfErr};
 ghost use Rattle.swc_ast.specs.declared.errors.PassError.TheVariants.{OutOfMemory};
 ghost use Rattle.swc_pass.specs.Pass.{TellsChange};
@@ -61,7 +61,7 @@ struct Turn<W> {
 
 /// Modules and scripts, of which modules can have rounds at once.
 pub(crate) trait Peel: Whole {
-    /// What rounds leave in which nothing but functions and variables of a module's own list goes: so many at most, and maybe none.
+    /// What rounds leave in which nothing but functions and variables of one list of a module goes: so many at most, and maybe none.
     fn peeled(self, names: &TreeShaker, alloc: Global, most: usize) -> Result<Left<Self>, PassError>
         requires { AtRest (⟦<TreeShaker as Pass>⟧.settings names.now) (Self.tree self) }
         ensures within { IfOk result (λ r. r.rounds ≤ most) }

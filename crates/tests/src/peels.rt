@@ -94,3 +94,61 @@ fn rounds_end(rt: HostRuntime) -> Result<(), Fail> {
     }
     Ok(())
 }
+
+/// In a wrapper as in the module's own list, where the other items stay and one of the wrapper's does.
+#[test]
+fn chains_in_a_wrapper_go_at_once(rt: HostRuntime) -> Result<(), Fail> {
+    let alloc = rt.alloc();
+    for (text, rounds) in [
+        (
+            "(function () { function a() { b(); } function b() { c(); } function c() {} f(); })();",
+            3,
+        ),
+        (
+            "(() => { let a = b; const b = () => c; function c() { d; } var d = [e, e]; let e; f(); })();",
+            5,
+        ),
+        ("(() => { function a() { b(); } function b() {} })();", 1),
+        (
+            "let l = 1; (() => { let a = l; let b = a; f(); })(); f();",
+            2,
+        ),
+        (
+            "f(); (() => { function a() { b(); } function b() {} f(); })(); (() => { g(); })();",
+            2,
+        ),
+        (
+            "import { x } from 'm'; (() => { function a() { x; b(); } function b() {} f(); })();",
+            1,
+        ),
+        (
+            "(() => { function a() { b(); } function b() {} f(); })(); export { b }; function b() {}",
+            2,
+        ),
+    ] {
+        peels(&rt, alloc, (text, ""), 9, rounds)?;
+        peels(&rt, alloc, (text, ""), 1, 1)?;
+    }
+    Ok(())
+}
+
+/// No round is known in what is no wrapper, or where something else would go.
+#[test]
+fn wrappers_wait(rt: HostRuntime) -> Result<(), Fail> {
+    let alloc = rt.alloc();
+    for text in [
+        "(() => { function a() { b(); } function b() {} f(); })(); function g() {}",
+        "(() => { g(); })(); (() => { function a() { b(); } function b() {} f(); })();",
+        "(() => { function a() { b(); } function b() {} f(); })(1);",
+        "(x => { function a() { b(); } function b() {} f(); })();",
+        "(function n() { function a() { b(); } function b() {} f(); })();",
+        "f((() => { function a() { b(); } function b() {} f(); })());",
+        "(() => { function a() { b(); } function b() {} eval('a'); })();",
+        "(() => { 'use asm'; function a() { b(); } function b() {} f(); })();",
+        "(() => f())();",
+        "(() => {})();",
+    ] {
+        peels(&rt, alloc, (text, ""), 9, 0)?;
+    }
+    Ok(())
+}

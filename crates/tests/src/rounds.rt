@@ -38,6 +38,24 @@ const MODULES: [&str; 24] = [
     "let a = b; let b = 1; 'use asm'; let e = 1; let d = e; let c = d; let g = c; f();",
 ];
 
+/// The same of the body of a wrapper, with and without other items.
+const WRAPPERS: [&str; 14] = [
+    "(function () { function a() { b(); } function b() { c(); } function c() { d(); } function d() {} f(); })();",
+    "(() => { function d() {} function c() { d(); } function b() { c(); } function a() { b(); } f(); })();",
+    "f(); (() => { function a() { b(); } function b() { c(); } function c() {} f(); })(); f();",
+    "(() => { function a() { b(); } function b() { c(); } function c() {} })();",
+    "let l = 1; (() => { let a = l; let b = a; let d = b; f(); })();",
+    "import { m } from 'm'; (() => { function a() { m; b(); } function b() { d(); } function d() {} f(); })();",
+    "(() => { function a() { b(); } function b() { c(); } function c() {} f(); })(); function b() { c(); } function c() {}",
+    "(() => { function a() { b(); } function b() { c(); } function c() {} return a; })(); export let e = 1;",
+    "(() => { function a() { b(); } function b() { c(); } function c() {} f(arguments); })();",
+    "(() => { function a() { b(); } function b() { c(); } function c() {} eval('f'); })();",
+    "(() => { 'use asm'; function a() { b(); } function b() { c(); } function c() {} f(); })();",
+    "(() => { function a() { b(); } function b() {} f(); (() => { function c() { d(); } function d() {} f(); })(); })();",
+    "(() => { f(); })(); (() => { function a() { b(); } function b() { c(); } function c() {} f(); })();",
+    "(x => { function a() { b(); } function b() { c(); } function c() {} f(); })(1);",
+];
+
 /// Runs both over a text, with a name that stays and so many rounds at most.
 fn tries(
     rt: &impl Abort,
@@ -71,14 +89,29 @@ fn tries(
     Ok(())
 }
 
+/// The same with several numbers of rounds, and with a name that stays.
+fn tries_often(rt: &impl Abort, alloc: Global, text: &str) -> Result<(), Fail> {
+    for most in [0, 1, 2, 3, 100] {
+        tries(rt, alloc, text, ("", most))?;
+        tries(rt, alloc, text, ("c", most))?;
+    }
+    Ok(())
+}
+
 #[test]
 fn rounds_at_once_are_rounds(rt: HostRuntime) -> Result<(), Fail> {
     let alloc = rt.alloc();
     for text in MODULES {
-        for most in [0, 1, 2, 3, 100] {
-            tries(&rt, alloc, text, ("", most))?;
-            tries(&rt, alloc, text, ("c", most))?;
-        }
+        tries_often(&rt, alloc, text)?;
+    }
+    Ok(())
+}
+
+#[test]
+fn rounds_in_wrappers_are_rounds(rt: HostRuntime) -> Result<(), Fail> {
+    let alloc = rt.alloc();
+    for text in WRAPPERS {
+        tries_often(&rt, alloc, text)?;
     }
     Ok(())
 }
