@@ -1,10 +1,10 @@
 -- What stands for names of imports are values of exports.
-use Rattle.std.proofs.Common.{◌≡◌, Bool, true, false, if◌then◌else◌, List, [], Option, Some, None, refl, subst}
+use Rattle.std.proofs.Common.{◌≡◌, Bool, true, false, if◌then◌else◌, Option, Some, None}
 use Rattle.swc_ast.specs.Run.{imported_text}
 use Rattle.swc_ast.specs.Tree.{Text, Name, same_name, Label, StrLit, Read, Dot, Index, Import, ImportNamed, ImportDefault, ImportStar, Tree, node, Forest, ε, ◌⊳◌}
-use Rattle.swc_pass.specs.Given.{Found, a_plain}
+use Rattle.swc_pass.specs.Given.{a_plain}
 use Rattle.swc_pass.specs.Inlined.{by_plain}
-use Rattle.swc_pass.specs.Constants.{Constants, or_expression, by_specifier, by_namespace, in_specifiers, in_item, in_items, constant, member, member_of, constant_at, constants}
+use Rattle.swc_pass.specs.Constants.{Constants, or_expression, by_specifier, by_namespace, in_specifiers, in_item, in_items, member_of, constant_at, constants}
 use Rattle.given_rules.specs.Givable.{IsGivable, AllGivable}
 
 same : {v w : Tree} → Some v ≡ Some w → v ≡ w

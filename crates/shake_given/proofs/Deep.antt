@@ -1,7 +1,6 @@
 -- What the count of levels tells.
-use Rattle.std.proofs.Common.{◌≡◌, ◌<◌, ◌≤◌, ℕ, List, Result, IfOk, IfErr, refl, subst, arith}
-use Rattle.std.proofs.lemmas.Result.{IfOk-weaker, IfErr-weaker}
-use Rattle.swc_ast.specs.Modules.{module_tree}
+use Rattle.std.proofs.Common.{◌≡◌, ◌<◌, ◌≤◌, ℕ, List, Result, IfOk, refl, subst, arith}
+use Rattle.std.proofs.lemmas.Result.{IfOk-weaker}
 use Rattle.swc_ast.specs.Tree.{Tree}
 use Rattle.swc_ast.specs.declared.modules.Module.{Module}
 use Rattle.swc_ast.specs.declared.names.Mark.{Mark}
@@ -15,7 +14,6 @@ use Rattle.swc_inline_globals.specs.declared.levels.Nesting.{Nesting}
 use Rattle.swc_inline_globals.specs.declared.levels.Nesting.TheVariants.{Levels, TooMany, Cyclic}
 use Rattle.shake_options.specs.Flags.{FlagText}
 use Rattle.shake_given.specs.declared.error.GivenError.{GivenError}
-use Rattle.shake_given.specs.declared.error.GivenError.TheVariants.{TooDeep}
 use Rattle.shake_given.specs.declared.given.Given.{Given}
 use Rattle.shake_given.specs.declared.given.GivenNames.{GivenNames}
 use Rattle.shake_given.specs.Prepared.{AreSettings, Replaces, Prepared, most_levels}
@@ -29,16 +27,8 @@ no_more a t most TooMany told few acyclic n h = absurd (few refl)
 no_more a t most Cyclic told few acyclic n h = absurd (acyclic told.0 told.1)
 
 -- more are counted
-pub nested : (g : GivenNames) (mark : Mark) (s : Settings) → AreSettings g mark s → (t : Tree) (most : ℕ) → TellsOfTree (answers_of s) t most TooMany → Nested g mark most t
-nested g mark s are t most told = record { settings = s; are = are; count = told.0; nests = told.1; more = told.2 }
-
--- the same of the module whose imports are replaced
-module _ (fs : List FlagText) (mark : Mark) (most : ℕ) (t constant : Tree) (g : Given) (read : Reads fs g) (replaces : Replaces g.modules t constant) (r : Result Module GivenError) where
-  pub names_within : IfOk r (λ m. Counted g.names mark most constant) → IfOk r (λ m. NamesWithin fs mark most t)
-  names_within = IfOk-weaker r (λ m. Counted g.names mark most constant) (λ m. NamesWithin fs mark most t) (λ m c. record { given = g; read = read; constant = constant; replaces = replaces; counted = c })
-
-  pub names_nest : IfErr r (λ e. e ≡ TooDeep → Nested g.names mark most constant) → IfErr r (λ e. e ≡ TooDeep → NamesNest fs mark most t)
-  names_nest = IfErr-weaker r (λ e. e ≡ TooDeep → Nested g.names mark most constant) (λ e. e ≡ TooDeep → NamesNest fs mark most t) (λ e n is. record { given = g; read = read; constant = constant; replaces = replaces; nested = n is })
+pub nests : (g : GivenNames) (mark : Mark) (s : Settings) → AreSettings g mark s → (t : Tree) (most : ℕ) → TellsOfTree (answers_of s) t most TooMany → Nested g mark most t
+nests g mark s are t most told = record { settings = s; are = are; count = told.0; nests = told.1; more = told.2 }
 
 -- what is asked for is what the module may have
 module _ (fs : List FlagText) (mark : Mark) (most : ℕ) (t : Tree) (is : most ≡ most_levels t) where
@@ -50,3 +40,7 @@ module _ (fs : List FlagText) (mark : Mark) (most : ℕ) (t : Tree) (is : most �
 
   pub is_made_deep : (u : Tree) → Prepared fs mark t u → most < levels u → IsTooDeep fs mark t
   is_made_deep u p more = made_deep u p (subst (λ k. k < levels u) is more)
+
+  -- the same of the module whose imports are replaced
+  pub names_within : (constant : Tree) (g : Given) → Reads mark fs g → Replaces g.modules t constant → (r : Result Module GivenError) → IfOk r (λ m. Counted g.names mark most constant) → IfOk r (λ m. Within fs mark t)
+  names_within constant g read replaces r = IfOk-weaker r (λ m. Counted g.names mark most constant) (λ m. Within fs mark t) (λ m c. is_within (record { given = g; read = read; constant = constant; replaces = replaces; holds = c }))

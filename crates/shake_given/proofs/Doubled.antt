@@ -1,5 +1,5 @@
 -- An expression may be put wherever one is read, just where a module may hold it twice.
-use Rattle.std.proofs.Common.{◌≡◌, ◌↔◌, IsTrue, ℕ, arith, Bool, true, false, ◌&&◌, refl, sym, ap, subst, ◌∙◌}
+use Rattle.std.proofs.Common.{◌≡◌, ◌↔◌, IsTrue, ℕ, arith, Bool, true, false, ◌&&◌, refl, sym, ap, subst}
 use Rattle.std.proofs.lemmas.Bool.{false≢true}
 use Rattle.swc_ast.specs.Core.{IsCore, fits}
 use Rattle.swc_ast.specs.Resolved.{Targets, no_targets, own_scopes, aimed, apart, IsResolved}

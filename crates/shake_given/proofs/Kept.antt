@@ -1,5 +1,5 @@
 -- What flags give may be put wherever one is read.
-use Rattle.std.proofs.Common.{◌≡◌, Bool, true, false, ◌&&◌, if◌then◌else◌, List, [], Option, Some, None, option_map, string_bytes, refl, sym, ap, subst, ◌∙◌, bytes_eq}
+use Rattle.std.proofs.Common.{◌≡◌, Bool, true, false, ◌&&◌, if◌then◌else◌, List, Option, Some, None, option_map, string_bytes, refl, sym, ap, subst, ◌∙◌, bytes_eq}
 use Rattle.std.specs.BTreeMap.{get_by_text, is_at}
 use Rattle.std.specs.Cmp.Lexicographic.{slice_cmp}
 use Rattle.std.specs.Map.{lookup}
@@ -9,6 +9,7 @@ use Rattle.std.specs.declared.string.String.{String}
 use Rattle.swc_ast.specs.Resolved.{own_scopes}
 use Rattle.swc_ast.specs.Tree.{Text, Tree}
 use Rattle.swc_ast.specs.Views.{expr_tree}
+use Rattle.swc_ast.specs.declared.names.Mark.{Mark}
 use Rattle.swc_expr_map.specs.Entries.{found}
 use Rattle.swc_expr_map.specs.Order.{same_key}
 use Rattle.given_rules.specs.Givable.{IsGivable}
@@ -60,16 +61,16 @@ module _ (g h : Given) (p : MayBePut g) where
   same_exports : h.modules ≡ g.modules → (s x : Text) (v : Tree) → export_of h s x ≡ Some v → IsGivable v
   same_exports is s x v e = p.exports s x v (sym (ap (λ m. option_map expr_tree (value_of m s x)) is) ∙ e)
 
-  taken_put : (f : FlagText) → Takes f g h → MayBePut h
-  taken_put (defined k v) d = record { exprs = λ t w e. either (same_key t d.key) d.givable (p.exprs t w) (sym (d.exprs t) ∙ e); envs = same_envs d.envs; exports = same_exports d.modules }
-  taken_put (an_env k t) d = record { exprs = same_exprs d.exprs; envs = λ x w e. either (bytes_eq k x) (text_givable t) (p.envs x w) (sym (d.envs x) ∙ e); exports = same_exports d.modules }
-  taken_put (a_type k t) d = record { exprs = same_exprs d.exprs; envs = same_envs d.envs; exports = same_exports d.modules }
-  taken_put (a_const m k v) d = record {
-    exprs = same_exprs (ap (λ n. n.exprs) d.names);
-    envs = same_envs (ap (λ n. n.envs) d.names);
-    exports = λ s x w e. either (bytes_eq m s && bytes_eq k x) d.givable (p.exports s x w) (sym (d.exports s x) ∙ e);
+  taken_put : (f : FlagText) (mark : Mark) → Takes f mark g h → MayBePut h
+  taken_put (defined k v) mark d = record { exprs = λ t w e. either (same_key t d.key.tree) d.value.holds (p.exprs t w) (sym (d.exprs t) ∙ e); envs = same_envs d.envs; exports = same_exports d.modules }
+  taken_put (an_env k t) mark d = record { exprs = same_exprs d.exprs; envs = λ x w e. either (bytes_eq k x) (text_givable t) (p.envs x w) (sym (d.envs x) ∙ e); exports = same_exports d.modules }
+  taken_put (a_type k t) mark d = record { exprs = same_exprs d.exprs; envs = same_envs d.envs; exports = same_exports d.modules }
+  taken_put (a_const m k v) mark d = record {
+    exprs = same_exprs (ap (λ n. n.exprs) d.sets.names);
+    envs = same_envs (ap (λ n. n.envs) d.sets.names);
+    exports = λ s x w e. either (bytes_eq m s && bytes_eq k x) d.value.holds (p.exports s x w) (sym (d.sets.exports s x) ∙ e);
   }
 
-pub may_be_put : {fs : List FlagText} {g : Given} → Reads fs g → MayBePut g
-may_be_put (no_flags n) = nothing_put _ n
-may_be_put (one_more fs f g r t) = taken_put g _ (may_be_put r) f t
+pub may_be_put : (mark : Mark) {fs : List FlagText} {g : Given} → Reads mark fs g → MayBePut g
+may_be_put mark (no_flags n) = nothing_put _ n
+may_be_put mark (one_more fs f g r t) = taken_put g _ (may_be_put mark r) f mark t

@@ -4,6 +4,7 @@ pub mod Doubled
 pub mod Kept
 pub mod Names
 pub mod Deep
+pub mod Refusals
 pub mod Stay
 pub mod Texts
 pub mod Turns

@@ -40,13 +40,13 @@ module _ (g : Given) (p : MayBePut g) where
 
 pub flagged_stays : (fs : List FlagText) (mark : Mark) {t u : Tree} (f : Flagged fs mark t u) → IsSorted f.given.names.exprs → Stays t u
 flagged_stays fs mark f sorted =
-    let p = may_be_put f.read in
-    stays_on (constant_stays f.given p f.replaces) (named_stays f.given p sorted mark f.puts)
+    let p = may_be_put mark f.read in
+    stays_on (constant_stays f.given p f.replaces) (named_stays f.given p sorted mark f.holds)
 
 -- what the last step puts is what flags make of the module
-module _ (fs : List FlagText) (mark : Mark) (t constant : Tree) (g : Given) (read : Reads fs g) (replaces : Replaces g.modules t constant) (r : Result Module GivenError) (puts : IfOk r (λ m. Puts g.names mark constant (module_tree m))) where
+module _ (fs : List FlagText) (mark : Mark) (t constant : Tree) (g : Given) (read : Reads mark fs g) (replaces : Replaces g.modules t constant) (r : Result Module GivenError) (puts : IfOk r (λ m. Puts g.names mark constant (module_tree m))) where
   abbrev flags_put : (u : Tree) → Puts g.names mark constant u → Flagged fs mark t u
-  flags_put u p = record { given = g; read = read; constant = constant; replaces = replaces; puts = p }
+  flags_put u p = record { given = g; read = read; constant = constant; replaces = replaces; holds = p }
 
   pub put_prepared : IfOk r (λ m. Prepared fs mark t (module_tree m))
   put_prepared = IfOk-weaker r (λ m. Puts g.names mark constant (module_tree m)) (λ m. Prepared fs mark t (module_tree m)) (λ m p. flagged (flags_put (module_tree m) p)) puts

@@ -7,10 +7,8 @@ use Rattle.given_globals.specs.Globals.{answers_of}
 use Rattle.given_globals.specs.declared.settings.Settings.{Settings}
 use Rattle.swc_inline_globals.specs.Nesting.{Nests}
 use Rattle.shake_options.specs.Flags.{FlagText}
-use Rattle.shake_given.specs.declared.given.Given.{Given}
 use Rattle.shake_given.specs.declared.given.GivenNames.{GivenNames}
-use Rattle.shake_given.specs.Prepared.{Replaces, AreSettings, NoNames, Prepared, most_levels}
-use Rattle.shake_given.specs.Reads.{Reads}
+use Rattle.shake_given.specs.Prepared.{AreSettings, NoNames, InBetween, Prepared, most_levels}
 
 -- No more levels are counted than are asked for, of a tree and of values that stand in one another.
 pub data Counted (g : GivenNames) (mark : Mark) (most : ℕ) (t : Tree) : Type 0 where
@@ -27,19 +25,11 @@ pub record Nested (g : GivenNames) (mark : Mark) (most : ℕ) (t : Tree) : Type 
 
 -- The same of a module once its imports are replaced.
 
-pub record NamesWithin (fs : List FlagText) (mark : Mark) (most : ℕ) (t : Tree) : Type 0 where
-  pub given : Given
-  pub read : Reads fs given
-  pub constant : Tree
-  pub replaces : Replaces given.modules t constant
-  pub counted : Counted given.names mark most constant
+abbrev pub NamesWithin : List FlagText → Mark → ℕ → Tree → Type 0
+NamesWithin fs mark most t = InBetween fs mark t (λ g constant. Counted g mark most constant)
 
-pub record NamesNest (fs : List FlagText) (mark : Mark) (most : ℕ) (t : Tree) : Type 0 where
-  pub given : Given
-  pub read : Reads fs given
-  pub constant : Tree
-  pub replaces : Replaces given.modules t constant
-  pub nested : Nested given.names mark most constant
+abbrev pub NamesNest : List FlagText → Mark → ℕ → Tree → Type 0
+NamesNest fs mark most t = InBetween fs mark t (λ g constant. Nested g mark most constant)
 
 -- a module with what flags give is no deeper than it may be, as it is counted before it is made
 pub data Within (fs : List FlagText) (mark : Mark) (t : Tree) : Type 0 where

@@ -44,14 +44,18 @@ pub data Puts (g : GivenNames) (mark : Mark) (t u : Tree) : Type 0 where
   no_names : NoNames g → u ≡ t → Puts g mark t u
   put : (s : Settings) → AreSettings g mark s → Inlined s t u → Puts g mark t u
 
--- what flags make of a module: imports come first
-pub record Flagged (fs : List FlagText) (mark : Mark) (t u : Tree) : Type 0 where
+-- what holds of the names that flags give, and of a module once its imports are replaced: these come first
+pub record InBetween (fs : List FlagText) (mark : Mark) (t : Tree) (P : GivenNames → Tree → Type 0) : Type 0 where
   pub given : Given
-  pub read : Reads fs given
+  pub read : Reads mark fs given
   -- the module once its imports are replaced
   pub constant : Tree
   pub replaces : Replaces given.modules t constant
-  pub puts : Puts given.names mark constant u
+  pub holds : P given.names constant
+
+-- what flags make of a module
+abbrev pub Flagged : List FlagText → Mark → Tree → Tree → Type 0
+Flagged fs mark t u = InBetween fs mark t (λ g constant. Puts g mark constant u)
 
 -- a module in front of a pass: itself where there are no flags
 pub data Prepared (fs : List FlagText) (mark : Mark) (t u : Tree) : Type 0 where
@@ -82,12 +86,8 @@ pub data SameNamed (g : GivenNames) (mark : Mark) (loads : Bool) (t v : Tree) : 
 
 -- The module without its given imports does in the world with their values what `constant` does in the plain one; and what that
 -- does in the world with answers for names, the answer does in the plain one.
-pub record SameWorlds (fs : List FlagText) (mark : Mark) (loads : Bool) (t v : Tree) : Type 0 where
-  pub given : Given
-  pub read : Reads fs given
-  pub constant : Tree
-  pub replaces : Replaces given.modules t constant
-  pub same : SameNamed given.names mark loads constant v
+abbrev pub SameWorlds : List FlagText → Mark → Bool → Tree → Tree → Type 0
+SameWorlds fs mark loads t v = InBetween fs mark t (λ g constant. SameNamed g mark loads constant v)
 
 -- a module and the answer of a pass behind its flags
 pub data SameFlagged (fs : List FlagText) (mark : Mark) (loads : Bool) (t v : Tree) : Type 0 where

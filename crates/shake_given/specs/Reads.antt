@@ -1,8 +1,12 @@
 -- What is given once flags are read, one after another: the last one of a key counts.
-use Rattle.std.specs.Prelude.{◌≡◌, Bool, true, false, ◌&&◌, ◌||◌, if◌then◌else◌, List, [], ◌∷◌, ◌++◌, Option, Some, None, option_map, string_bytes, bytes_eq}
+use Rattle.std.specs.Prelude.{◌≡◌, ◌<◌, ◌^◌, Bool, true, false, ◌&&◌, ◌||◌, if◌then◌else◌, List, [], ◌∷◌, ◌++◌, length, Option, Some, option_map, string_bytes, bytes_eq}
 use Rattle.std.specs.BTreeMap.{get_by_text}
+use Rattle.swc_ast.specs.Core.{IsCore}
+use Rattle.swc_ast.specs.Marks.{mark_number}
+use Rattle.swc_ast.specs.Resolved.{IsResolved}
 use Rattle.swc_ast.specs.Tree.{Text, StrLit, Read, Dot, Index, Tree, node, ε, ◌⊳◌}
 use Rattle.swc_ast.specs.Views.{expr_tree}
+use Rattle.swc_ast.specs.declared.names.Mark.{Mark}
 use Rattle.swc_expr_map.specs.Entries.{found}
 use Rattle.swc_expr_map.specs.Order.{same_key}
 use Rattle.given_rules.specs.Givable.{IsGivable}
@@ -21,9 +25,24 @@ is_chain (node (Dot k) ss (o ⊳ ε)) = is_chain o
 is_chain (node Index ss (o ⊳ k ⊳ ε)) = is_text k && is_chain o
 is_chain t = false
 
+abbrev pub IsChain : Tree → Type 0
+IsChain t = is_chain t ≡ true
+
 -- a text as a literal
 abbrev pub literal : Text → Tree
 literal t = node (StrLit t) (record { lo = 0; hi = 0 } ∷ []) ε
+
+-- what the reader tells of a text that it reads as an expression; its contract doesn't say which expression
+pub record IsRead (text : Text) (mark : Mark) (t : Tree) : Type 0 where
+  pub short : length text < 2 ^ 31
+  pub resolved : IsResolved (mark_number mark) t
+  pub core : IsCore t
+
+-- a text that is read as an expression of which something holds
+pub record ReadAs (text : Text) (mark : Mark) (P : Tree → Type 0) : Type 0 where
+  pub tree : Tree
+  pub read : IsRead text mark tree
+  pub holds : P tree
 
 -- what is given for a read, by the maps
 abbrev pub env_of : Given → Text → Option Tree
@@ -42,13 +61,11 @@ pub record IsNothing (g : Given) : Type 0 where
   pub typeofs : g.names.typeofs.entries ≡ []
   pub modules : g.modules.modules.entries ≡ []
 
--- a value at a chain
-pub record Defines (g h : Given) : Type 0 where
-  pub key : Tree
-  pub value : Tree
-  pub chain : is_chain key ≡ true
-  pub givable : IsGivable value
-  pub exprs : (t : Tree) → found t h.names.exprs ≡ (if same_key t key then Some value else found t g.names.exprs)
+-- a value at a chain, as their texts are read
+pub record Defines (k v : Text) (mark : Mark) (g h : Given) : Type 0 where
+  pub key : ReadAs k mark IsChain
+  pub value : ReadAs v mark IsGivable
+  pub exprs : (t : Tree) → found t h.names.exprs ≡ (if same_key t key.tree then Some value.tree else found t g.names.exprs)
   pub envs : h.names.envs ≡ g.names.envs
   pub typeofs : h.names.typeofs ≡ g.names.typeofs
   pub modules : h.modules ≡ g.modules
@@ -68,21 +85,24 @@ pub record SetsType (k t : Text) (g h : Given) : Type 0 where
   pub modules : h.modules ≡ g.modules
 
 -- a value at an export of a module
-pub record Exports (m k : Text) (g h : Given) : Type 0 where
-  pub value : Tree
-  pub givable : IsGivable value
+pub record SetsExport (m k : Text) (value : Tree) (g h : Given) : Type 0 where
   pub modules : (s : Text) → is_given h.modules s ≡ (bytes_eq m s || is_given g.modules s)
   pub exports : (s x : Text) → export_of h s x ≡ (if bytes_eq m s && bytes_eq k x then Some value else export_of g s x)
   pub names : h.names ≡ g.names
 
+-- the same, as its text is read
+pub record Exports (m k v : Text) (mark : Mark) (g h : Given) : Type 0 where
+  pub value : ReadAs v mark IsGivable
+  pub sets : SetsExport m k value.tree g h
+
 -- what was given, and what is given once a flag is read
-abbrev pub Takes : FlagText → Given → Given → Type 0
-Takes (defined k v) g h = Defines g h
-Takes (an_env k t) g h = SetsEnv k t g h
-Takes (a_type x t) g h = SetsType x t g h
-Takes (a_const m x v) g h = Exports m x g h
+abbrev pub Takes : FlagText → Mark → Given → Given → Type 0
+Takes (defined k v) mark g h = Defines k v mark g h
+Takes (an_env k t) mark g h = SetsEnv k t g h
+Takes (a_type x t) mark g h = SetsType x t g h
+Takes (a_const m x v) mark g h = Exports m x v mark g h
 
 -- what is given once flags are read in their order
-pub data Reads : List FlagText → Given → Type 0 where
-  no_flags : {g : Given} → IsNothing g → Reads [] g
-  one_more : (fs : List FlagText) (f : FlagText) (g : Given) {h : Given} → Reads fs g → Takes f g h → Reads (fs ++ f ∷ []) h
+pub data Reads (mark : Mark) : List FlagText → Given → Type 0 where
+  no_flags : {g : Given} → IsNothing g → Reads mark [] g
+  one_more : (fs : List FlagText) (f : FlagText) (g : Given) {h : Given} → Reads mark fs g → Takes f mark g h → Reads mark (fs ++ f ∷ []) h

@@ -1,8 +1,8 @@
 //! Why what is given isn't put.
-ghost use Rattle.std.specs.Prelude.{◌≡◌};
-ghost use Rattle.swc_ast.specs.declared.errors.PassError.TheVariants as pass;
+ghost use Rattle.std.specs.Prelude.{◌≡◌, Some};
 ghost use Rattle.shake_given.specs.declared.error.GivenError.TheVariants.{OutOfMemory};
-ghost use Rattle.shake_given.specs.Refusals.{IsOther};
+ghost use Rattle.shake_given.specs.Refused.{of_pass};
+ghost use Rattle.shake_given.specs.Told.{error_text};
 
 use crate::line::Line;
 use std::alloc::{AllocError, AllocFailed};
@@ -37,6 +37,8 @@ pub enum GivenError {
 }
 
 impl fmt::Display for GivenError {
+    ghost output = { λ e. Some (error_text e) };
+
     fn fmt<W: fmt::Write>(&self, f: &mut fmt::Formatter<W>) -> fmt::Result {
         match self {
             GivenError::Unreadable { key, fault } => write!(f, "given {}: {fault}", Line(key)),
@@ -76,7 +78,7 @@ impl<T: Drop> From<AllocFailed<T>> for GivenError {
 /// The same refusal, in the words of the program. A value whose text isn't read is told by its text's key, so that no pass
 /// tells it.
 impl From<PassError> for GivenError {
-    ghost from_gives = { λ p e. (p ≡ pass.OutOfMemory → e ≡ OutOfMemory) × IsOther e };
+    ghost from_gives = { λ p e. e ≡ of_pass p };
 
     fn from(error: PassError) -> GivenError {
         match error {

@@ -1,10 +1,10 @@
 //! What flags give, read.
 ghost use Rattle.std.specs.Prelude.{IfOk, IfErr, OnOk, map};
 ghost use Rattle.swc_ast.specs.Views.{expr_tree};
-ghost use Rattle.given_rules.specs.Givable.{IsGivable};
 ghost use Rattle.shake_options.specs.Flags.{flag_texts};
-ghost use Rattle.shake_given.specs.Reads.{IsNothing, Defines, SetsEnv, SetsType, Exports, Takes, Reads};
-ghost use Rattle.shake_given.specs.Refusals.{IsOther};
+ghost use Rattle.shake_given.specs.Reads.{IsNothing, Defines, SetsEnv, SetsType, SetsExport, Exports, Takes, Reads};
+ghost use Rattle.shake_options.specs.Flags.{defined, a_const};
+ghost use Rattle.shake_given.specs.Refusals.{Refuses, FlagRefused};
 
 use crate::error::GivenError;
 use crate::key::Key;
@@ -51,11 +51,13 @@ impl Given {
         }
     }
 
-    /// What flags give: of those with the same key the last one counts. Refuses the first key or value that isn't read or may
-    /// not be given, and where memory is refused.
+    /// What flags give: of those with the same key the last one counts. Fails at the first flag that can't be given, which is
+    /// told by its key: with `Unreadable` where the reader refuses the key of a `Define`, or the value of a `Define` or a `Const`,
+    /// with `NoChain` where such a key is read as no name and no chain, and with `Unfit` where such a value is read, but may not
+    /// be given. Fails with `OutOfMemory` where memory is refused, and at no `Env` and no `TypeOf` for another reason.
     pub fn read(alloc: Global, flags: &[Flag<'_>], mark: Mark) -> Result<Given, GivenError>
-        ensures reads { IfOk result (Reads (map flag_texts flags.now)) }
-        ensures other { IfErr result IsOther }
+        ensures reads { IfOk result (Reads mark (map flag_texts flags.now)) }
+        ensures refused { IfErr result (FlagRefused (map flag_texts flags.now) mark) }
     {
         let mut given = Given::new(alloc);
         for flag in flags {
@@ -65,8 +67,8 @@ impl Given {
     }
 
     fn take(&mut self, alloc: Global, flag: Flag<'_>, mark: Mark) -> Result<(), GivenError>
-        ensures takes { OnOk result (Takes (flag_texts flag.entry) self.old self.new) }
-        ensures other { IfErr result IsOther }
+        ensures takes { OnOk result (Takes (flag_texts flag.entry) mark self.old self.new) }
+        ensures refused { IfErr result (Refuses (flag_texts flag.entry) mark) }
     {
         match flag {
             Flag::Define { key, value } => self.define(alloc, key, value, mark),
@@ -87,8 +89,8 @@ impl Given {
         value: &str,
         mark: Mark,
     ) -> Result<(), GivenError>
-        ensures defines { OnOk result (Defines self.old self.new) }
-        ensures other { IfErr result IsOther }
+        ensures defines { OnOk result (Defines key.now value.now mark self.old self.new) }
+        ensures refused { IfErr result (Refuses (defined key.now value.now) mark) }
     {
         let key = Key {
             module: None,
@@ -128,8 +130,8 @@ impl Given {
         value: &str,
         mark: Mark,
     ) -> Result<(), GivenError>
-        ensures exports { OnOk result (Exports source.now name.now self.old self.new) }
-        ensures other { IfErr result IsOther }
+        ensures exports { OnOk result (Exports source.now name.now value.now mark self.old self.new) }
+        ensures refused { IfErr result (Refuses (a_const source.now name.now value.now) mark) }
     {
         let key = Key {
             module: Some(source),
@@ -146,7 +148,7 @@ impl Given {
         name: &str,
         value: Expr,
     ) -> Result<(), AllocError>
-        ensures { OnOk result (IsGivable (expr_tree value) → Exports source.now name.now self.old self.new) }
+        ensures { OnOk result (SetsExport source.now name.now (expr_tree value) self.old self.new) }
     {
         let mut exports = match self.modules.modules.remove(source) {
             Some(exports) => exports,

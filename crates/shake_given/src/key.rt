@@ -1,9 +1,10 @@
 //! Keys, and what is read for them.
-ghost use Rattle.std.specs.Prelude.{◌≡◌, true, IfOk, IfErr};
+ghost use Rattle.std.specs.Prelude.{◌≡◌, IfOk, IfErr, string_bytes};
 ghost use Rattle.swc_ast.specs.Views.{expr_tree};
 ghost use Rattle.given_rules.specs.Givable.{IsGivable};
-ghost use Rattle.shake_given.specs.Reads.{is_chain};
-ghost use Rattle.shake_given.specs.Refusals.{IsOther};
+ghost use Rattle.shake_given.specs.Keys.{key_text};
+ghost use Rattle.shake_given.specs.Reads.{IsChain, IsRead};
+ghost use Rattle.shake_given.specs.Refusals.{Unread, RefusesKey, RefusesValue};
 
 use crate::error::GivenError;
 use crate::fit::{is_chain, is_givable};
@@ -21,7 +22,9 @@ pub(crate) struct Key<'a> {
 
 impl Key<'_> {
     /// The key as the command line has it. Fails where memory is refused.
-    fn text(self, alloc: Global) -> Result<String, AllocError> {
+    fn text(self, alloc: Global) -> Result<String, AllocError>
+        ensures { IfOk result (λ text. string_bytes text ≡ key_text self.entry) }
+    {
         match self.module {
             None => String::from_str(alloc, self.name),
             Some(module) => {
@@ -31,32 +34,30 @@ impl Key<'_> {
         }
     }
 
-    /// The refusal of a text that isn't read.
-    fn unreadable(self, alloc: Global, fault: ReadError) -> GivenError
-        ensures { IsOther result }
-    {
-        if fault == ReadError::OutOfMemory {
-            return GivenError::OutOfMemory;
-        }
-        match self.text(alloc) {
-            Ok(key) => GivenError::Unreadable { key, fault },
-            Err(_) => GivenError::OutOfMemory,
-        }
-    }
-
+    /// The expression of a text. Fails with `Unreadable` where the reader refuses the text, and with `OutOfMemory` where memory
+    /// is refused.
     fn read(self, alloc: Global, text: &str, mark: Mark) -> Result<Expr, GivenError>
-        ensures { IfErr result IsOther }
+        ensures read { IfOk result (λ e. IsRead text.now mark (expr_tree e)) }
+        ensures unread { IfErr result (Unread (key_text self.entry) text.now) }
     {
-        match read_value(alloc, text, mark) {
-            Ok(value) => Ok(value),
-            Err(fault) => Err(self.unreadable(alloc, fault)),
+        let fault = match read_value(alloc, text, mark) {
+            Ok(value) => return Ok(value),
+            Err(fault) => fault,
+        };
+        match fault {
+            ReadError::OutOfMemory => Err(GivenError::OutOfMemory),
+            _ => Err(GivenError::Unreadable {
+                key: self.text(alloc)?,
+                fault,
+            }),
         }
     }
 
-    /// The value of a text. Refuses what is no expression, a value that may not stand everywhere, and where memory is refused.
+    /// The value of a text. Fails as `read` does, and with `Unfit` where the value is read, but may not stand everywhere.
     pub(crate) fn value(self, alloc: Global, text: &str, mark: Mark) -> Result<Expr, GivenError>
+        ensures read { IfOk result (λ e. IsRead text.now mark (expr_tree e)) }
         ensures givable { IfOk result (λ e. IsGivable (expr_tree e)) }
-        ensures other { IfErr result IsOther }
+        ensures refused { IfErr result (RefusesValue (key_text self.entry) text.now mark) }
     {
         let value = self.read(alloc, text, mark)?;
         if is_givable(alloc, &value, mark)? {
@@ -68,10 +69,12 @@ impl Key<'_> {
         }
     }
 
-    /// The key itself, as a name or a chain of members. Refuses anything else, and where memory is refused.
+    /// The key itself, as a name or a chain of members. Fails as `read` does, and with `NoChain` where the key is read as anything
+    /// else.
     pub(crate) fn chain(self, alloc: Global, mark: Mark) -> Result<Expr, GivenError>
-        ensures chain { IfOk result (λ e. is_chain (expr_tree e) ≡ true) }
-        ensures other { IfErr result IsOther }
+        ensures read { IfOk result (λ e. IsRead self.entry.name.now mark (expr_tree e)) }
+        ensures chain { IfOk result (λ e. IsChain (expr_tree e)) }
+        ensures refused { IfErr result (RefusesKey (key_text self.entry) self.entry.name.now mark) }
     {
         let chain = self.read(alloc, self.name, mark)?;
         if is_chain(&chain) {

@@ -17,4 +17,4 @@ module _ (law : InFront) (mark : Mark) (loads : Bool) where
 
   pub behind_flags : (fs : List FlagText) (t u v : Tree) → Prepared fs mark t u → Same (mark_number mark) loads u v → SameFlagged fs mark loads t v
   behind_flags fs t u v (unflagged n e) s = same_unflagged n (subst (λ x. Same (mark_number mark) loads x v) e s)
-  behind_flags fs t u v (flagged k) s = same_flagged (record { given = k.given; read = k.read; constant = k.constant; replaces = k.replaces; same = named k.given.names k.constant u v k.puts s })
+  behind_flags fs t u v (flagged k) s = same_flagged (record { given = k.given; read = k.read; constant = k.constant; replaces = k.replaces; holds = named k.given.names k.constant u v k.holds s })

@@ -1,5 +1,5 @@
 -- A pass that tells what the options say is the pass that they name.
-use Rattle.std.proofs.Common.{ℕ, ◌≡◌, Bool, true, refl, sym, ap, subst, ◌∙◌, List, map, string_bytes, IfOk, Result}
+use Rattle.std.proofs.Common.{ℕ, ◌≡◌, true, refl, sym, ap, subst, ◌∙◌, List, map, string_bytes, IfOk, Result}
 use Rattle.std.proofs.lemmas.Result.{IfOk-weaker}
 use Rattle.swc_ast.specs.Core.{IsCore}
 use Rattle.swc_ast.specs.Resolved.{IsResolved}

@@ -1,5 +1,4 @@
 -- A module that is read is resolved and in the core, so what a pass keeps of such a module holds of the answer.
-use Rattle.std.proofs.Common.{map, string_bytes}
 use Rattle.swc_ast.specs.Modules.{module_tree}
 use Rattle.shake_run.specs.Done.{unread, refused}
 use Rattle.shake_run.proofs.answer.answer.Goals as goal

@@ -13,9 +13,7 @@ returns c =
       | in-Some w ↦ had c.args.self.now.modules.modules c.remove.result c.args.source.now c.match-remove.exports w.in-Some.exports c.remove.ensures.value w.exports-is w.in-Some.is
       | in-None w ↦ had_none c.args.self.now.modules.modules c.remove.result c.args.source.now c.match-remove.exports w.new-exports.result c.remove.ensures.value w.exports-is w.in-None.is w.new-exports.ensures.empty
     ] in
-    λ g. record {
-      value = expr_tree c.args.value;
-      givable = g;
+    record {
       modules = given_after c.args.self.now.modules.modules c.remove.new.self c.insert-2.new.self c.match-remove.exports c.insert.new.self c.in_ok-source.source c.in_ok-name.name c.args.value c.args.source.now c.args.name.now c.in_ok-source.ensures.ok c.in_ok-name.ensures.ok c.remove.ensures.updates c.in_ok-insert.ensures.updates c.in_ok-insert-2.ensures.updates;
       exports = exports_after c.args.self.now.modules.modules c.remove.new.self c.insert-2.new.self c.match-remove.exports c.insert.new.self c.in_ok-source.source c.in_ok-name.name c.args.value c.args.source.now c.args.name.now c.in_ok-source.ensures.ok c.in_ok-name.ensures.ok c.remove.ensures.updates c.in_ok-insert.ensures.updates c.in_ok-insert-2.ensures.updates was expr_tree;
       names = refl;
