@@ -4,7 +4,7 @@ ghost use Rattle.swc_ast.specs.Meaning.{has_label};
 ghost use Rattle.branch_rules.specs.Jumps as rules;
 ghost use Rattle.branch_rules.specs.Once as once;
 ghost use Rattle.branch_rules.specs.Switches as switches;
-ghost use Rattle.branch_jumps.specs.Aims.{kinds, label_texts, texts};
+ghost use Rattle.branch_jumps.specs.Aims.{kinds, label_texts, sought, texts};
 
 /// Labels round a place, the innermost first.
 #[derive(Clone, Copy)]
@@ -17,7 +17,7 @@ pub struct Labels<'a> {
 
 impl<'a> Labels<'a> {
     /// A label that stands inside others.
-    pub(crate) fn new(label: &'a str, others: Option<&'a Labels<'a>>) -> Labels<'a>
+    pub fn new(label: &'a str, others: Option<&'a Labels<'a>>) -> Labels<'a>
         ensures { label_texts result ≡ label.entry.now ∷ texts others.entry }
     {
         Labels { label, others }
@@ -34,6 +34,26 @@ fn is_among(label: &str, labels: Option<&Labels<'_>>) -> bool
     }
 }
 
+/// With which labels `continue` is looked for.
+#[derive(Clone, Copy)]
+pub enum Sought<'a> {
+    /// every label
+    Every,
+    /// some, if there are any
+    Only(Option<&'a Labels<'a>>),
+}
+
+impl<'a> Sought<'a> {
+    fn has(self, label: &str) -> bool
+        ensures { result ≡ rules.is_sought (sought self.entry) label.now }
+    {
+        match self {
+            Sought::Every => true,
+            Sought::Only(labels) => is_among(label, labels),
+        }
+    }
+}
+
 /// Which jumps are looked for; those with a label but `continue` never are.
 #[derive(Clone, Copy)]
 pub struct Jumps<'a> {
@@ -42,33 +62,21 @@ pub struct Jumps<'a> {
     /// `continue`
     pub continues: bool,
     /// `continue` with a label
-    pub labelled: bool,
+    pub labelled: Sought<'a>,
     /// the labels with which `continue` isn't looked for: those of the loops round the place that are looked into
     /// themselves
     pub inside: Option<&'a Labels<'a>>,
 }
 
 impl<'a> Jumps<'a> {
-    /// Those that may be aimed at a loop, which may have labels or not.
-    pub fn looping(labels: bool) -> Jumps<'a>
-        ensures { kinds result ≡ once.looping labels }
+    /// Those that may be aimed at a loop whose labels are among some.
+    pub fn looping(labels: Sought<'a>) -> Jumps<'a>
+        ensures { kinds result ≡ once.looping (sought labels.entry) }
     {
         Jumps {
             breaks: true,
             continues: true,
             labelled: labels,
-            inside: None,
-        }
-    }
-
-    /// Each `continue` with a label that stands in front of no loop inside.
-    pub fn labelling() -> Jumps<'a>
-        ensures { kinds result ≡ once.labelling }
-    {
-        Jumps {
-            breaks: false,
-            continues: false,
-            labelled: true,
             inside: None,
         }
     }
@@ -80,7 +88,7 @@ impl<'a> Jumps<'a> {
         Jumps {
             breaks: true,
             continues: false,
-            labelled: false,
+            labelled: Sought::Only(None),
             inside: None,
         }
     }
@@ -111,8 +119,8 @@ impl<'a> Jumps<'a> {
 
     /// Whether `continue` with this label is looked for.
     pub(crate) fn has_label(self, label: &str) -> bool
-        ensures { result ≡ ((kinds self.entry).labelled && not (has_label label.now (kinds self.entry).inside)) }
+        ensures { result ≡ (rules.is_sought (kinds self.entry).labelled label.now && not (has_label label.now (kinds self.entry).inside)) }
     {
-        self.labelled && !is_among(label, self.inside)
+        self.labelled.has(label) && !is_among(label, self.inside)
     }
 }

@@ -4,5 +4,5 @@
 mod aims;
 mod walk;
 
-pub use aims::Jumps;
+pub use aims::{Jumps, Labels, Sought};
 pub use walk::{has_jump, have_jumps};

@@ -18,7 +18,7 @@ use Rattle.swc_ast.proofs.Equations.{loop_trees-is, stmt_tree-For, for_tree-is}
 use Rattle.swc_utils.specs.Known.{truth, pure_truth}
 use Rattle.swc_utils.specs.Pure.{pure}
 use Rattle.pass_proofs.proofs.ExprTrees.{is_an_expression}
-use Rattle.branch_rules.specs.Jumps.{escapes, some_escape}
+use Rattle.branch_rules.specs.Jumps.{Sought, every, escapes, some_escape}
 use Rattle.branch_rules.specs.Once.{looping, is_jump, all_functions, whole, a_jump, inside, do_once}
 use Rattle.branch_rules.specs.Removes.{statement, once}
 use Rattle.branch_rules.specs.Statements.{is_plain, do_true}
@@ -28,10 +28,10 @@ use Rattle.branch_expressions.proofs.Made.{pure_known}
 use Rattle.branch_parts.proofs.GivesNothing.{stmt_gives_nothing}
 use Rattle.branch_loops.specs.Runs.{is_function_tree, Once, runs_once, stays_round, JumpAt, Passed}
 
-pub once_jump : (k : Bool) (t u : Tree) (s : Stmt) (ss : List Span) → is_jump t ≡ true → stmt_tree s ≡ node Empty ss ε → Once k t u (Some s)
+pub once_jump : (k : Sought) (t u : Tree) (s : Stmt) (ss : List Span) → is_jump t ≡ true → stmt_tree s ≡ node Empty ss ε → Once k t u (Some s)
 once_jump k t u s ss h is = runs_once ss (a_jump t h) is
 
-pub once_whole : (k : Bool) (b : Stmt) (u : Tree) (s : Stmt) → is_plain (stmt_tree b) ≡ true → escapes (looping k) (stmt_tree b) ≡ false → stmt_tree s ≡ stmt_tree b → Once k (stmt_tree b) u (Some s)
+pub once_whole : (k : Sought) (b : Stmt) (u : Tree) (s : Stmt) → is_plain (stmt_tree b) ≡ true → escapes (looping k) (stmt_tree b) ≡ false → stmt_tree s ≡ stmt_tree b → Once k (stmt_tree b) u (Some s)
 once_whole k b u s p e is = runs_once [] (whole (stmt_tree b) p (stmt_gives_nothing b) e) is
 
 behind : {X : Type 0} (front : List X) (x : X) (rest : List X) → drop (suc (length front)) (front ++ x ∷ rest) ≡ rest
@@ -47,7 +47,7 @@ without front x rest =
     let e : length front + 1 ≡ suc (length front) = omega arith in
     ap (λ k. take (length front) (front ++ x ∷ rest) ++ drop k (front ++ x ∷ rest)) e ∙ ap₂ (λ xs ys. xs ++ ys) (in_front front (x ∷ rest)) (behind front x rest)
 
-pub once_inside : (k : Bool) (n : BlockStmt Stmt) (i : ℕ) (made : List Stmt) (ss : List Span) (u : Tree) (s : Stmt) → JumpAt k i n.stmts.items → made ≡ take i n.stmts.items ++ drop (i + 1) n.stmts.items → stmt_tree s ≡ node Block ss (list_trees stmt_tree made) → Once k (block_tree stmt_tree n) u (Some s)
+pub once_inside : (k : Sought) (n : BlockStmt Stmt) (i : ℕ) (made : List Stmt) (ss : List Span) (u : Tree) (s : Stmt) → JumpAt k i n.stmts.items → made ≡ take i n.stmts.items ++ drop (i + 1) n.stmts.items → stmt_tree s ≡ node Block ss (list_trees stmt_tree made) → Once k (block_tree stmt_tree n) u (Some s)
 once_inside k n i made ss u s j is at =
     let ts = list_trees stmt_tree j.front in
     let rest = list_trees stmt_tree j.rest in
@@ -75,10 +75,10 @@ module _ (mark : ℕ) (n : WhileStmt) where
       let p = pure_known (pure mark t) (truth mark t) true h in
       subst (λ x. Turns mark x u (Some s)) (sym (do_is n)) (by_rule [] (statement (do_true (n.span ∷ []) [] [] [] (n.span ∷ []) (stmt_tree n.body.value) t (is_an_expression n.test.value) p.0 p.1)) is)
 
-  pub once_do : (m : WhileStmt) (b c : Stmt) (o : Option Stmt) → Once true (stmt_tree b) (stmt_tree c) o → pure_truth mark (expr_tree n.test.value) ≡ Some false → b ≡ n.body.value → m.body.value ≡ c → m.span ≡ n.span → m.test ≡ n.test → Turns mark (do_while_node (loop_trees n)) (do_while_node (loop_trees m)) o
-  once_do m b c o k h is made span test = by o (subst (λ x. Once true (stmt_tree x) (stmt_tree c) o) is k)
+  pub once_do : (m : WhileStmt) (b c : Stmt) (o : Option Stmt) → Once every (stmt_tree b) (stmt_tree c) o → pure_truth mark (expr_tree n.test.value) ≡ Some false → b ≡ n.body.value → m.body.value ≡ c → m.span ≡ n.span → m.test ≡ n.test → Turns mark (do_while_node (loop_trees n)) (do_while_node (loop_trees m)) o
+  once_do m b c o k h is made span test = by o (subst (λ x. Once every (stmt_tree x) (stmt_tree c) o) is k)
     where
-      by : (q : Option Stmt) → Once true (stmt_tree n.body.value) (stmt_tree c) q → Turns mark (do_while_node (loop_trees n)) (do_while_node (loop_trees m)) q
+      by : (q : Option Stmt) → Once every (stmt_tree n.body.value) (stmt_tree c) q → Turns mark (do_while_node (loop_trees n)) (do_while_node (loop_trees m)) q
       by q (runs_once rs {us = us} {s = s} r at) =
           let t = expr_tree n.test.value in
           let p = pure_known (pure mark t) (truth mark t) false h in
@@ -94,14 +94,14 @@ parts_false : (a b : Bool) → (a || b) ≡ false → (a ≡ false) × (b ≡ fa
 parts_false true b h = impossible (sym h)
 parts_false false b h = (refl, h)
 
-none_more : (k : Bool) (xs : List Stmt) (s : Stmt) → some_escape (looping k) (list_trees stmt_tree xs) ≡ false → escapes (looping k) (stmt_tree s) ≡ false → some_escape (looping k) (list_trees stmt_tree (xs ++ s ∷ [])) ≡ false
+none_more : (k : Sought) (xs : List Stmt) (s : Stmt) → some_escape (looping k) (list_trees stmt_tree xs) ≡ false → escapes (looping k) (stmt_tree s) ≡ false → some_escape (looping k) (list_trees stmt_tree (xs ++ s ∷ [])) ≡ false
 none_more k [] s h e = both_false _ false e refl
 none_more k (x ∷ xs) s h e = let p = parts_false (escapes (looping k) (stmt_tree x)) _ h in both_false (escapes (looping k) (stmt_tree x)) _ p.0 (none_more k xs s p.1 e)
 
-pub passed_none : (k : Bool) (i : ℕ) (ss left : List Stmt) → i ≡ 0 → ss ≡ left → Passed k i ss left
+pub passed_none : (k : Sought) (i : ℕ) (ss left : List Stmt) → i ≡ 0 → ss ≡ left → Passed k i ss left
 passed_none k i ss left none is = record { front = []; is = is; place = sym none; before = refl }
 
-pub passed_more : (k : Bool) (i j : ℕ) (ss left rest : List Stmt) (s : Stmt) → Passed k i ss left → left ≡ s ∷ rest → j ≡ i + 1 → escapes (looping k) (stmt_tree s) ≡ false → Passed k j ss rest
+pub passed_more : (k : Sought) (i j : ℕ) (ss left rest : List Stmt) (s : Stmt) → Passed k i ss left → left ≡ s ∷ rest → j ≡ i + 1 → escapes (looping k) (stmt_tree s) ≡ false → Passed k j ss rest
 passed_more k i j ss left rest s p is next h = record {
   front = p.front ++ s ∷ [];
   is = p.is ∙ ap (λ xs. p.front ++ xs) is ∙ sym (append_assoc p.front (s ∷ []) rest);
@@ -109,7 +109,7 @@ passed_more k i j ss left rest s p is next h = record {
   before = none_more k p.front s p.before h;
 }
 
-pub jump_at : (k : Bool) (i : ℕ) (ss left rest : List Stmt) (s : Stmt) → Passed k i ss left → left ≡ s ∷ rest → is_jump (stmt_tree s) ≡ true → all_functions (list_trees stmt_tree rest) ≡ true → JumpAt k i ss
+pub jump_at : (k : Sought) (i : ℕ) (ss left rest : List Stmt) (s : Stmt) → Passed k i ss left → left ≡ s ∷ rest → is_jump (stmt_tree s) ≡ true → all_functions (list_trees stmt_tree rest) ≡ true → JumpAt k i ss
 jump_at k i ss left rest s p is h f = record { front = p.front; jump = s; rest = rest; is = p.is ∙ ap (λ xs. p.front ++ xs) is; place = p.place; before = p.before; jumps = h; functions = f }
 
 first_function : (t : Tree) (ts : Forest) → is_function_tree t ≡ true → all_functions (t ⊳ ts) ≡ all_functions ts

@@ -9,6 +9,7 @@ ghost use Rattle.branch_rules.specs.Removes.{Rests};
 ghost use Rattle.branch_rules.specs.Turns.{Turns};
 
 use crate::once::run_once;
+use branch_jumps::Sought;
 use branch_parts::take_stmt;
 use std::alloc::{AllocError, Global};
 use swc_ast::{DoWhileStmt, ForStmt, Stmt};
@@ -41,7 +42,7 @@ pub fn fold_do(
 {
     match n.test.as_pure_bool(ctx) {
         Value::Known(true) => Ok(Some(take_endless(alloc, n)?)),
-        Value::Known(false) => Ok(run_once(alloc, true, &mut n.body)),
+        Value::Known(false) => Ok(run_once(alloc, Sought::Every, &mut n.body)),
         Value::Unknown => Ok(None),
     }
 }

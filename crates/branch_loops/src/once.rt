@@ -3,10 +3,11 @@ ghost use Rattle.std.specs.Prelude.{◌≡◌, true, IfSome, IsTrue};
 ghost use Rattle.swc_ast.specs.Parts.{list_trees};
 ghost use Rattle.swc_ast.specs.Statements.{block_tree};
 ghost use Rattle.swc_ast.specs.Views.{decl_tree, stmt_tree};
+ghost use Rattle.branch_jumps.specs.Aims.{sought};
 ghost use Rattle.branch_rules.specs.Once as rules;
 ghost use Rattle.branch_loops.specs.Runs.{is_function_tree, JumpAt, Once};
 
-use branch_jumps::{Jumps, has_jump};
+use branch_jumps::{Jumps, Sought, has_jump};
 use branch_parts::{is_plain, take_stmt};
 use std::alloc::Global;
 use std::mem;
@@ -60,8 +61,8 @@ fn are_functions(stmts: &[Stmt]) -> bool
 
 /// Where the first direct jump stands, if no jump aimed at a loop round the statements stands in those before it, and
 /// nothing but functions behind it.
-fn jump_place(labels: bool, stmts: &[Stmt]) -> Option<usize>
-    ensures { IfSome result (λ i. JumpAt labels i stmts.now) }
+fn jump_place(labels: Sought<'_>, stmts: &[Stmt]) -> Option<usize>
+    ensures { IfSome result (λ i. JumpAt (sought labels.entry) i stmts.now) }
 {
     let mut left = stmts;
     let mut place = 0;
@@ -82,8 +83,8 @@ fn jump_place(labels: bool, stmts: &[Stmt]) -> Option<usize>
 }
 
 /// A block whose first direct jump goes.
-fn run_front(alloc: Global, labels: bool, n: &mut BlockStmt) -> Option<Stmt>
-    ensures { Once labels (block_tree stmt_tree n.old) (block_tree stmt_tree n.new) result }
+fn run_front(alloc: Global, labels: Sought<'_>, n: &mut BlockStmt) -> Option<Stmt>
+    ensures { Once (sought labels.entry) (block_tree stmt_tree n.old) (block_tree stmt_tree n.new) result }
 {
     match jump_place(labels, &n.stmts) {
         Some(place) => {
@@ -98,11 +99,11 @@ fn run_front(alloc: Global, labels: bool, n: &mut BlockStmt) -> Option<Stmt>
     }
 }
 
-/// What a body that is run once becomes without the loop round it, which may have labels or not, if no jump that is aimed at
+/// What a body that is run once becomes without the loop round it, whose labels are among some, if no jump that is aimed at
 /// the loop is left in it.
 #[tactic(auto, using(swc_ast::proofs::Equations::forms))]
-pub(crate) fn run_once(alloc: Global, labels: bool, body: &mut Stmt) -> Option<Stmt>
-    ensures { Once labels (stmt_tree body.old) (stmt_tree body.new) result }
+pub(crate) fn run_once(alloc: Global, labels: Sought<'_>, body: &mut Stmt) -> Option<Stmt>
+    ensures { Once (sought labels.entry) (stmt_tree body.old) (stmt_tree body.new) result }
 {
     if is_jump(body) {
         return Some(Stmt::Empty(EmptyStmt { span: DUMMY_SP }));

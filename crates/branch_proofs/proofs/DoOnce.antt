@@ -1,12 +1,12 @@
 -- A `do` whose test is false runs its body once.
-use Rattle.std.proofs.Common.{◌≡◌, ℕ, zero, suc, Bool, true, false, ◌||◌, if◌then◌else◌, List, [], ◌++◌, Some, None, refl, sym, ap, subst, ◌∙◌}
+use Rattle.std.proofs.Common.{◌≡◌, ℕ, zero, suc, Bool, true, false, ◌&&◌, ◌||◌, if◌then◌else◌, List, [], ◌++◌, Some, None, refl, sym, ap, ◌∙◌}
 use Rattle.std.proofs.lemmas.Bool.{and_from, false≢true, true≢false}
 use Rattle.swc_ast.specs.declared.Span.{Span}
 use Rattle.swc_ast.specs.Tree.{Name, Block, Break, Continue, Tree, node, Forest, ε, ◌⊳◌}
 use Rattle.swc_ast.specs.Value.{Value, Undefined, State, Broken, Continued, Returned, Thrown, Outcome, Done, Jumps, Outside, Cut, Run, and_then, Context, Meaning}
 use Rattle.swc_ast.specs.Operators.{truthy}
 use Rattle.swc_ast.specs.Scope.{has_name, vars, vars_all, declared_by, declared, Declared, joined}
-use Rattle.swc_ast.specs.Meaning.{◌>>=◌, gives, in_scope, in_list_scope, run_all, plain, turn, do_turns, act, eval, evals}
+use Rattle.swc_ast.specs.Meaning.{◌>>=◌, gives, in_scope, in_list_scope, run_all, plain, has_label, after_jump, turn, do_turns, act, eval, evals}
 use Rattle.swc_ast.specs.Call.{call_at}
 use Rattle.meaning_proofs.specs.Exact.{Refines}
 use Rattle.swc_utils.specs.Holds.{HasTruth, Keeps as Known}
@@ -16,7 +16,7 @@ use Rattle.pass_proofs.proofs.Refines.{refines_path}
 use Rattle.pass_proofs.proofs.Truths.{truth_keeps}
 use Rattle.meaning_proofs.proofs.Finds.{has_cons, has_joined}
 use Rattle.branch_proofs.proofs.Becoming.{Becomes, SameVars}
-use Rattle.branch_rules.specs.Jumps.{in_loop, escapes, some_escape}
+use Rattle.branch_rules.specs.Jumps.{Sought, every, is_sought, escapes, some_escape}
 use Rattle.branch_proofs.proofs.Leaving.{is_kind, Stays}
 use Rattle.branch_rules.specs.Once.{looping, labelling, is_jump, OnceRun, whole, a_jump, inside, DoStep, do_once, all_functions}
 use Rattle.branch_rules.specs.Statements.{gives_nothing, all_give_nothing}
@@ -25,7 +25,6 @@ use Rattle.branch_proofs.proofs.Declared.{one}
 use Rattle.branch_proofs.proofs.Dropped.{made_dropped}
 use Rattle.branch_proofs.proofs.Jumps.{tree_keeps, calls_keep}
 use Rattle.branch_proofs.proofs.Labels.{tree_same}
-use Rattle.branch_proofs.proofs.Relabelled.{relabel}
 use Rattle.branch_proofs.proofs.Statements.{scope_of, dropped_same}
 use Rattle.branch_proofs.proofs.Tests.{one_declares, declared_behind}
 use Rattle.branch_proofs.proofs.Labelled.{expression_vars, plain_declares}
@@ -33,22 +32,24 @@ use Rattle.branch_proofs.proofs.Escapes.{escapes_less, some_less, functions_stay
 use Rattle.branch_proofs.proofs.Unbroken.{list_keeps, functions_run}
 use mathlib.Core.Path.{fun_ext}
 
--- labels in front of a loop, if it may have some
-abbrev pub Labels : Bool → List (List ℕ) → Type 0
-Labels true ls = Unit {0}
-Labels false ls = ls ≡ []
+-- the labels in front of a loop are among some
+abbrev pub Labels : Sought → List (List ℕ) → Type 0
+Labels k ls = (l : List ℕ) → is_sought k l ≡ false → has_label l ls ≡ false
 
 -- what a turn comes to where no other follows
 abbrev over : List (List ℕ) → Outcome Value → Outcome Value
 over ls o = and_then (turn ls o) (λ b. gives Undefined)
 
--- a labelled `continue` that isn't aimed at the loop
-over_label : (k : Bool) (ls : List (List ℕ)) (l : List ℕ) (s : State) → Labels k ls → is_kind (looping k) (Continued (Some l)) ≡ false → over ls (Jumps (Continued (Some l)) s) ≡ Jumps (Continued (Some l)) s
-unfolding turn and_then
-over_label true ls l s p h = absurd (true≢false h)
-over_label false ls l s p h = subst (λ ms. over ms (Jumps (Continued (Some l)) s) ≡ Jumps (Continued (Some l)) s) (sym p) refl
+and_true : (b : Bool) → (b && true) ≡ false → b ≡ false
+and_true true h = absurd (true≢false h)
+and_true false h = refl
 
-over_quiet : (k : Bool) (ls : List (List ℕ)) (o : Outcome Value) → Labels k ls → Stays (looping k) o → over ls o ≡ and_then o (λ v. gives Undefined)
+-- a labelled `continue` that isn't aimed at the loop
+over_label : (k : Sought) (ls : List (List ℕ)) (l : List ℕ) (s : State) → Labels k ls → is_kind (looping k) (Continued (Some l)) ≡ false → over ls (Jumps (Continued (Some l)) s) ≡ Jumps (Continued (Some l)) s
+unfolding turn and_then
+over_label k ls l s p h = ap (λ b. and_then (after_jump (if b then Some true else None) (Continued (Some l)) s) (λ g. gives Undefined)) (p l (and_true (is_sought k l) h))
+
+over_quiet : (k : Sought) (ls : List (List ℕ)) (o : Outcome Value) → Labels k ls → Stays (looping k) o → over ls o ≡ and_then o (λ v. gives Undefined)
 unfolding turn and_then
 over_quiet k ls (Done v s) p h = refl
 over_quiet k ls (Jumps (Broken None) s) p h = absurd (true≢false h)
@@ -60,7 +61,7 @@ over_quiet k ls (Jumps (Thrown v) s) p h = refl
 over_quiet k ls Outside p h = refl
 over_quiet k ls Cut p h = refl
 
-over_break : (k : Bool) (ls : List (List ℕ)) (o : Outcome Value) (rest : Value → Run Value) → Labels k ls → Stays (looping k) o → over ls (and_then o (λ v. (λ s. Jumps (Broken None) s) >>= rest)) ≡ and_then o (λ v. gives Undefined)
+over_break : (k : Sought) (ls : List (List ℕ)) (o : Outcome Value) (rest : Value → Run Value) → Labels k ls → Stays (looping k) o → over ls (and_then o (λ v. (λ s. Jumps (Broken None) s) >>= rest)) ≡ and_then o (λ v. gives Undefined)
 unfolding turn and_then
 over_break k ls (Done v s) rest p h = refl
 over_break k ls (Jumps (Broken None) s) rest p h = absurd (true≢false h)
@@ -72,7 +73,7 @@ over_break k ls (Jumps (Thrown v) s) rest p h = refl
 over_break k ls Outside rest p h = refl
 over_break k ls Cut rest p h = refl
 
-over_continue : (k : Bool) (ls : List (List ℕ)) (o : Outcome Value) (rest : Value → Run Value) → Labels k ls → Stays (looping k) o → over ls (and_then o (λ v. (λ s. Jumps (Continued None) s) >>= rest)) ≡ and_then o (λ v. gives Undefined)
+over_continue : (k : Sought) (ls : List (List ℕ)) (o : Outcome Value) (rest : Value → Run Value) → Labels k ls → Stays (looping k) o → over ls (and_then o (λ v. (λ s. Jumps (Continued None) s) >>= rest)) ≡ and_then o (λ v. gives Undefined)
 unfolding turn and_then
 over_continue k ls (Done v s) rest p h = refl
 over_continue k ls (Jumps (Broken None) s) rest p h = absurd (true≢false h)
@@ -121,15 +122,10 @@ module _ (mark n d : ℕ) where
   unfolding eval act in_list_scope
   block_is us ts c = refl
 
-  steady : (t : Tree) (c : Context) → escapes labelling t ≡ false → does t (plain c) ≡ does t c
-  steady t c h = tree_same mark n (call_at (eval mark n) d) (λ g f this args. calls_keep g (eval mark n) d f this args) t h [] c
+  steady : (k : Sought) (t : Tree) (c : Context) → Labels k c.labels → escapes (labelling k) t ≡ false → does t (plain c) ≡ does t c
+  steady k t c p h = tree_same mark n (call_at (eval mark n) d) (λ g f this args. calls_keep g (eval mark n) d f this args) k t h [] c.labels (λ l e. sym (p l e)) c
 
-  -- so does one that is run without labels
-  by_labels : (k : Bool) (t : Tree) (c : Context) → Labels k c.labels → (k ≡ true → escapes labelling t ≡ false) → does t (plain c) ≡ does t c
-  by_labels true t c p h = steady t c (h refl)
-  by_labels false t c p h = ap (λ (ls : List (List ℕ)). does t (relabel ls c)) (sym p)
-
-  jumped : (k : Bool) (ls : List (List ℕ)) (ts : Forest) (t : Tree) (rest vs : Forest) (e : Context) (s : State) → Labels k ls → some_escape (looping k) ts ≡ false → is_jump t ≡ true → all_functions vs ≡ true → over ls (runs (joined ts (t ⊳ rest)) e s) ≡ runs (joined ts vs) e s
+  jumped : (k : Sought) (ls : List (List ℕ)) (ts : Forest) (t : Tree) (rest vs : Forest) (e : Context) (s : State) → Labels k ls → some_escape (looping k) ts ≡ false → is_jump t ≡ true → all_functions vs ≡ true → over ls (runs (joined ts (t ⊳ rest)) e s) ≡ runs (joined ts vs) e s
   unfolding run_all eval evals act
   jumped k ls ts (node (Break None) ss ε) rest vs e s p h g f =
       ap (λ (m : Run Value). over ls (m s)) (run_behind mark n (call_at (eval mark n) d) ts (node (Break None) ss ε ⊳ rest) e)
@@ -149,26 +145,26 @@ module _ (mark n d : ℕ) where
   jump_alone ls (node (Continue None) ss ε) e s g = refl
   jump_alone ls t e s g = absurd (false≢true g)
 
-  once_run : {k : Bool} {b : Tree} {us : Forest} → OnceRun k b us → (c : Context) → Labels k c.labels → drop (λ s. over c.labels (does b (plain c) s)) ≡ runs us c
+  once_run : {k : Sought} {b : Tree} {us : Forest} → OnceRun k b us → (c : Context) → Labels k c.labels → drop (λ s. over c.labels (does b (plain c) s)) ≡ runs us c
   unfolding run_all evals and_then
   once_run {k} (whole b p q g) c w =
       ap drop (fun_ext (λ s. over_quiet k c.labels (does b (plain c) s) w ((tree_keeps mark n (call_at (eval mark n) d) (λ g f this args. calls_keep g (eval mark n) d f this args) b (looping k) g (plain c)).by s)))
-      ∙ made_dropped (does b (plain c)) (λ v. Undefined) ∙ ap drop (by_labels k b c w (λ e. subst (λ z. escapes (in_loop [] (looping z)) b ≡ false) e (escapes_less (looping k) b g)))
+      ∙ made_dropped (does b (plain c)) (λ v. Undefined) ∙ ap drop (steady k b c w (escapes_less (looping k) b g))
   once_run (a_jump t g) c w = ap drop (fun_ext (λ s. jump_alone c.labels t (plain c) s g))
   once_run {k} (inside bs us ts t rest h g f) c w =
       ap drop (
       ap (λ (m : Run Value). λ s. over c.labels (m s)) (block_is bs (joined ts (t ⊳ rest)) (plain c))
       ∙ fun_ext (λ s. scope_over (declared (joined ts (t ⊳ rest))) (over c.labels) (runs (joined ts (t ⊳ rest))) (runs (joined ts rest)) (plain c) (λ e u. jumped k c.labels ts t rest rest e u w h g f) s)
       ∙ ap (λ (ps : List Declared). scope_of ps (runs (joined ts rest)) (plain c)) (jump_declares ts t rest g)
-      ∙ sym (block_is us (joined ts rest) (plain c)) ∙ by_labels k (node Block us (joined ts rest)) c w (λ e. none_behind labelling ts rest (subst (λ z. some_escape (in_loop [] (looping z)) ts ≡ false) e (some_less (looping k) ts h)) (functions_stay labelling rest f)))
+      ∙ sym (block_is us (joined ts rest) (plain c)) ∙ steady k (node Block us (joined ts rest)) c w (none_behind (labelling k) ts rest (some_less (looping k) ts h) (functions_stay (labelling k) rest f)))
 
-  pub do_run : {k : Bool} {t : Tree} {us : Forest} → DoStep mark k t us → (c : Context) → Labels k c.labels → Refines (drop (does t c)) (runs us c)
+  pub do_run : {k : Sought} {t : Tree} {us : Forest} → DoStep mark k t us → (c : Context) → Labels k c.labels → Refines (drop (does t c)) (runs us c)
   unfolding eval evals act
   do_run (do_once ss b t z p e o) c w = refines_trans (dropped_same (do_ended n (does b) (does t) c (truth_keeps mark n d t false p e))) (refines_path (once_run o c w))
 
-pub do_becomes : {mark : ℕ} {t : Tree} {us : Forest} → DoStep mark true t us → Becomes mark (t ⊳ ε) us
+pub do_becomes : {mark : ℕ} {t : Tree} {us : Forest} → DoStep mark every t us → Becomes mark (t ⊳ ε) us
 unfolding run_all evals
-do_becomes {mark} h = record { by = λ n d c. do_run mark n d h c tt }
+do_becomes {mark} h = record { by = λ n d c. do_run mark n d h c (λ l e. absurd (true≢false e)) }
 
 -- names
 
@@ -181,12 +177,12 @@ jump_vars x t h = absurd (false≢true h)
 jump_names : (x : Name) (ts : Forest) (t : Tree) (rest : Forest) → is_jump t ≡ true → has_name x (vars_all (joined ts (t ⊳ rest))) ≡ has_name x (vars_all (joined ts rest))
 jump_names x ts t rest g = has_joined x ts (t ⊳ rest) ∙ ap (λ b. has_name x (vars_all ts) || b) (has_cons x t rest ∙ ap (λ b. b || has_name x (vars_all rest)) (jump_vars x t g)) ∙ sym (has_joined x ts rest)
 
-once_vars : (x : Name) {k : Bool} {b : Tree} {us : Forest} → OnceRun k b us → has_name x (vars b) ≡ has_name x (vars_all us)
+once_vars : (x : Name) {k : Sought} {b : Tree} {us : Forest} → OnceRun k b us → has_name x (vars b) ≡ has_name x (vars_all us)
 once_vars x (whole b p q g) = sym (one x b)
 once_vars x (a_jump t g) = jump_vars x t g
 once_vars x (inside bs us ts t rest h g f) = jump_names x ts t rest g ∙ sym (one x (node Block us (joined ts rest)))
 
-once_declares : {k : Bool} {b : Tree} {us : Forest} → OnceRun k b us → declared us ≡ []
+once_declares : {k : Sought} {b : Tree} {us : Forest} → OnceRun k b us → declared us ≡ []
 once_declares (whole b p q g) = one_declares b (plain_declares b p)
 once_declares (a_jump t g) = refl
 once_declares (inside bs us ts t rest h g f) = refl
@@ -195,7 +191,7 @@ or_empty : (a b : Bool) → b ≡ false → (a || b) ≡ a
 or_empty true b e = refl
 or_empty false b e = e
 
-pub do_vars : {mark : ℕ} {k : Bool} {t : Tree} {us : Forest} → DoStep mark k t us → SameVars t us
+pub do_vars : {mark : ℕ} {k : Sought} {t : Tree} {us : Forest} → DoStep mark k t us → SameVars t us
 do_vars (do_once ss b t z p e o) = record {
   vars = λ x. has_cons x b (t ⊳ ε) ∙ or_empty (has_name x (vars b)) _ (one x t ∙ ap (has_name x) (expression_vars t z)) ∙ once_vars x o;
   before = refl;
@@ -204,10 +200,10 @@ do_vars (do_once ss b t z p e o) = record {
 
 -- none of what is left gives a value
 
-once_stands : {k : Bool} {b : Tree} {us : Forest} → OnceRun k b us → all_give_nothing us ≡ true
+once_stands : {k : Sought} {b : Tree} {us : Forest} → OnceRun k b us → all_give_nothing us ≡ true
 once_stands (whole b p g h) = and_from (gives_nothing b) true g refl
 once_stands (a_jump t g) = refl
 once_stands (inside bs us ts t rest h g f) = refl
 
-pub do_stands : {mark : ℕ} {k : Bool} {t : Tree} {us : Forest} → DoStep mark k t us → all_give_nothing us ≡ true
+pub do_stands : {mark : ℕ} {k : Sought} {t : Tree} {us : Forest} → DoStep mark k t us → all_give_nothing us ≡ true
 do_stands (do_once ss b t e p k o) = once_stands o

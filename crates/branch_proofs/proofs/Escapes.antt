@@ -4,7 +4,7 @@ use Rattle.std.proofs.lemmas.Bool.{false≢true}
 use Rattle.swc_ast.specs.Tree.{Text, Fn, Arrow, Method, FnDecl, ExportDefaultFn, While, DoWhile, For, Labeled, Switch, Break, Continue, Tree, node, Forest, ε, ◌⊳◌}
 use Rattle.swc_ast.specs.Meaning.{has_label}
 use Rattle.swc_ast.specs.Scope.{joined}
-use Rattle.branch_rules.specs.Jumps.{Kinds, in_loop, in_switch, escapes_behind, escapes, some_escape}
+use Rattle.branch_rules.specs.Jumps.{is_sought, Kinds, in_loop, in_switch, escapes_behind, escapes, some_escape}
 use Rattle.branch_rules.specs.Switches.{breaking}
 use Rattle.static_proofs.specs.Jumps.{jumps_out, any_jumps_out}
 use Rattle.branch_rules.specs.Once.{all_functions}
@@ -27,7 +27,7 @@ mutual
   behind_less : (near : List Text) (g : Kinds) (t : Tree) → escapes_behind near g t ≡ false → escapes_behind near (only_labelled g) t ≡ false
   behind_less near g (node (Break None) ss cs) h = let p = neither (some_escape g cs) g.breaks h in both_false (some_escape (only_labelled g) cs) false (some_less g cs p.0) refl
   behind_less near g (node (Continue None) ss cs) h = let p = neither (some_escape g cs) g.continues h in both_false (some_escape (only_labelled g) cs) false (some_less g cs p.0) refl
-  behind_less near g (node (Continue (Some l)) ss cs) h = let p = neither (some_escape g cs) (g.labelled && not (has_label l g.inside)) h in both_false (some_escape (only_labelled g) cs) (g.labelled && not (has_label l g.inside)) (some_less g cs p.0) p.1
+  behind_less near g (node (Continue (Some l)) ss cs) h = let p = neither (some_escape g cs) (is_sought g.labelled l && not (has_label l g.inside)) h in both_false (some_escape (only_labelled g) cs) (is_sought g.labelled l && not (has_label l g.inside)) (some_less g cs p.0) p.1
   behind_less near g (node (Fn o) ss cs) h = refl
   behind_less near g (node Arrow ss cs) h = refl
   behind_less near g (node (FnDecl x) ss cs) h = refl

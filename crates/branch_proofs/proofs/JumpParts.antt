@@ -10,7 +10,7 @@ use Rattle.swc_ast.specs.Operators.{truthy, is_nullish, to_text, to_number, stri
 use Rattle.swc_ast.specs.Scope.{Declared, case_statements}
 use Rattle.swc_ast.specs.Meaning.{◌>>=◌, gives, leaves, in_core, take_reply, ask, checked_type, is_type_name, is_unresolved, read, read_host, read_bound, held_value, cell_at, write, write_host, write_bound, write_cell, is_initialised, initialise, initialise_bound, initialise_cell, Scope, numbered, in_scope, token_text, get, put, make_value, read_this, get_at, put_at, shape0, shape1, shape2, shape3, shape1+, shape2+, all_values, in_turn, run_all, spread_items, item_values, array_items, merged, object_fields, one_field, short_circuits, shortened, operate, assign, update, in_list_scope, plain, has_label, after_jump, turn, turns, do_turns, copies, at_label, at_break, Case, cases_of, bodies_from, default_bodies, chosen, selected, switch, is_param, handled, resume, finally, try_catch, declare, copied_names, for_loop, shape_if, shape_return, template_text, type_of_name}
 use Rattle.pass_proofs.proofs.Runs.{bind_chain}
-use Rattle.branch_rules.specs.Jumps.{Kinds, in_loop, in_switch}
+use Rattle.branch_rules.specs.Jumps.{is_sought, Kinds, in_loop, in_switch}
 use Rattle.branch_proofs.proofs.Leaving.{Stays, Keeps}
 use Rattle.branch_proofs.proofs.Relabelled.{relabel, Follows, copies_follow, followed, Covered, no_nearer}
 
@@ -293,7 +293,7 @@ module _ (g : Kinds) where
   at_break_stays Outside h = tt
   at_break_stays Cut h = tt
 
-  pub aimed_stays : (b : Bool) (l : List ℕ) (s : State) → (b ≡ false → (g.labelled && not (has_label l g.inside)) ≡ false) → Stays g (after_jump (if b then Some true else None) (Continued (Some l)) s)
+  pub aimed_stays : (b : Bool) (l : List ℕ) (s : State) → (b ≡ false → (is_sought g.labelled l && not (has_label l g.inside)) ≡ false) → Stays g (after_jump (if b then Some true else None) (Continued (Some l)) s)
   aimed_stays true l s h = tt
   aimed_stays false l s h = h refl
 
@@ -303,7 +303,7 @@ module _ (g : Kinds) where
   turn_stays near labels k (Jumps (Broken None) s) h = tt
   turn_stays near labels k (Jumps (Broken (Some l)) s) h = refl
   turn_stays near labels k (Jumps (Continued None) s) h = tt
-  turn_stays near labels k (Jumps (Continued (Some l)) s) h = aimed_stays (has_label l labels) l s (no_nearer g.labelled (has_label l labels) (has_label l near) (has_label l g.inside) (k.by l) h)
+  turn_stays near labels k (Jumps (Continued (Some l)) s) h = aimed_stays (has_label l labels) l s (no_nearer (is_sought g.labelled l) (has_label l labels) (has_label l near) (has_label l g.inside) (k.by l) h)
   turn_stays near labels k (Jumps (Returned v) s) h = refl
   turn_stays near labels k (Jumps (Thrown v) s) h = refl
   turn_stays near labels k Outside h = tt

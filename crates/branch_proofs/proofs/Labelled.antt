@@ -1,8 +1,8 @@
 -- What follows from the label of a tree: what it declares, and what no label of its kind is.
-use Rattle.std.proofs.Common.{◌≡◌, ℕ, Bool, true, false, [], refl, ⊎_elim}
+use Rattle.std.proofs.Common.{◌≡◌, ℕ, true, false, [], refl, ⊎_elim}
 use Rattle.std.proofs.lemmas.Bool.{false≢true, or_cases}
 use Rattle.swc_ast.specs.declared.VarDeclKind.TheVariants.{Var}
-use Rattle.swc_ast.specs.Tree.{Label, Param, NumLit, StrLit, BoolLit, NullLit, This, Invalid, Read, Template, Array, Object, Fn, Arrow, Unary, TypeOfName, Binary, Cond, Seq, Dot, Index, Call, New, CallEval, CallDot, CallIndex, Assign, AssignDot, AssignIndex, Update, UpdateDot, UpdateIndex, Block, Empty, Throw, ExprStmt, Return, If, While, DoWhile, For, Labeled, Break, Continue, Switch, Try, VarDecl, Absent, Tree, node, label_of}
+use Rattle.swc_ast.specs.Tree.{Label, NumLit, StrLit, BoolLit, NullLit, This, Invalid, Read, Template, Array, Object, Fn, Arrow, Unary, TypeOfName, Binary, Cond, Seq, Dot, Index, Call, New, CallEval, CallDot, CallIndex, Assign, AssignDot, AssignIndex, Update, UpdateDot, UpdateIndex, Block, Empty, Throw, ExprStmt, Return, If, While, DoWhile, For, Labeled, Break, Continue, Switch, Try, VarDecl, Absent, Tree, node, label_of}
 use Rattle.swc_ast.specs.Scope.{vars, declared_by}
 use Rattle.meaning_proofs.specs.Roles.{is_item}
 use Rattle.meaning_proofs.proofs.Quiet.{declares_nothing}

@@ -2,14 +2,14 @@
 use Rattle.std.specs.Prelude.{◌≡◌, Bool, false, not, ◌&&◌, Some, None}
 use Rattle.swc_ast.specs.Value.{Jump, Broken, Continued, Returned, Thrown, State, Outcome, Done, Jumps, Outside, Cut, Run}
 use Rattle.swc_ast.specs.Meaning.{has_label}
-use Rattle.branch_rules.specs.Jumps.{Kinds}
+use Rattle.branch_rules.specs.Jumps.{is_sought, Kinds}
 
 -- whether a jump is of some kinds
 abbrev pub is_kind : Kinds → Jump → Bool
 is_kind g (Broken None) = g.breaks
 is_kind g (Broken (Some l)) = false
 is_kind g (Continued None) = g.continues
-is_kind g (Continued (Some l)) = g.labelled && not (has_label l g.inside)
+is_kind g (Continued (Some l)) = is_sought g.labelled l && not (has_label l g.inside)
 is_kind g (Returned v) = false
 is_kind g (Thrown v) = false
 

@@ -54,6 +54,7 @@ pub mod SwitchOwes
 pub mod AimedRest
 pub mod DoOwes
 pub mod WithinOwe
+pub mod WithinParts
 pub mod Owes
 pub mod Resting
 pub mod ListsExact

@@ -20,16 +20,23 @@ pub refines_if : {A : Type 0} {m k h i : Run A} (b : Bool) → Refines m h → R
 refines_if true r q = r
 refines_if false r q = q
 
-refined_turn : (labels : List (List ℕ)) (o p : Outcome Value) → Refined o p → Refined (turn labels o) (turn labels p)
-unfolding turn
-refined_turn labels (Done v s) p h = subst (λ q. Refined (turn labels (Done v s)) (turn labels q)) (sym h) refl
-refined_turn labels (Jumps j s) p h = subst (λ q. Refined (turn labels (Jumps j s)) (turn labels q)) (sym h) ((refines_same (λ t. turn labels (Jumps j s))).by s)
-refined_turn labels Outside p h = tt
-refined_turn labels Cut p h = tt
+pub refined_same : {A : Type 0} (o : Outcome A) → Refined o o
+refined_same (Done v s) = refl
+refined_same (Jumps j s) = refl
+refined_same Outside = tt
+refined_same Cut = tt
+
+-- what is done with an outcome: one that leaves the core still does, and one that is cut stays cut
+pub refined_by : {A B : Type 0} (f : Outcome A → Outcome B) (o p : Outcome A) → f Outside ≡ Outside → f Cut ≡ Cut → Refined o p → Refined (f o) (f p)
+refined_by f (Done v s) p a b h = subst (λ q. Refined (f (Done v s)) (f q)) (sym h) (refined_same (f (Done v s)))
+refined_by f (Jumps j s) p a b h = subst (λ q. Refined (f (Jumps j s)) (f q)) (sym h) (refined_same (f (Jumps j s)))
+refined_by f Outside p a b h = subst (λ q. Refined q (f p)) (sym a) tt
+refined_by f Cut p a b h = subst (λ q. Refined q (f p)) (sym b) tt
 
 -- a body is run without labels
 turn_refines : (m k : Meaning) → ((c : Context) → Refines (m (plain c)) (k (plain c))) → (c : Context) → Refines (λ s. turn c.labels (m (plain c) s)) (λ s. turn c.labels (k (plain c) s))
-turn_refines m k h c = record { by = λ s. refined_turn c.labels (m (plain c) s) (k (plain c) s) ((h c).by s) }
+unfolding turn
+turn_refines m k h c = record { by = λ s. refined_by (turn c.labels) (m (plain c) s) (k (plain c) s) refl refl ((h c).by s) }
 
 pub turns_refine : (n : ℕ) (t t' b b' u u' : Meaning) (next : Context → Run Context) → ((c : Context) → Refines (t c) (t' c)) → ((c : Context) → Refines (b (plain c)) (b' (plain c))) → ((c : Context) → Refines (drop (u c)) (drop (u' c))) → (c : Context) → Refines (turns n t b next u c) (turns n t' b' next u' c)
 unfolding turns

@@ -8,6 +8,7 @@ use Rattle.static_proofs.specs.Step.{Step}
 use Rattle.static_proofs.proofs.Compose.{step_then}
 use Rattle.walk_proofs.specs.Finished.{Does, at_front, at_node, at_list, at_both}
 use Rattle.pass_proofs.proofs.DefaultsOwe.{default_owes}
+use Rattle.branch_rules.specs.Jumps.{every}
 use Rattle.branch_rules.specs.Lists.{Tidied, kept_names}
 use Rattle.branch_rules.specs.Once.{DoStep, do_once}
 use Rattle.branch_rules.specs.Removes.{statement, once, within, cases, Removes, of_expression, of_statement, of_default, followed, remove_pass}
@@ -81,7 +82,7 @@ switch_no_list (selected_default ss us d v fs k ks h g p e r i j u q o z) = refl
 switch_no_list (none_selected ss d v ks h g p e r i f q) = refl
 switch_no_list (leading_go ss us xs d v fs ks h g e r i q o w) = refl
 
-do_no_list : {mark : ℕ} {t : Tree} {us : Forest} → DoStep mark true t us → is_list (label_of t) ≡ false
+do_no_list : {mark : ℕ} {t : Tree} {us : Forest} → DoStep mark every t us → is_list (label_of t) ≡ false
 do_no_list (do_once ss b t q p k o) = refl
 
 within_no_list : {mark : ℕ} {t : Tree} {us : Forest} → WithinStep mark t us → is_list (label_of t) ≡ false

@@ -18,6 +18,7 @@ use Rattle.walk_proofs.specs.Plain.{NodeRight, does_same, default_goes}
 use Rattle.pass_proofs.proofs.Defaults.{void_is_undefined}
 use Rattle.branch_proofs.proofs.Labelled.{expression_inside}
 use Rattle.branch_rules.specs.Expressions.{ExpressionStep, front, itself, same_arms, in_guard}
+use Rattle.branch_rules.specs.Jumps.{every}
 use Rattle.branch_rules.specs.Once.{DoStep, do_once}
 use Rattle.branch_rules.specs.Removes.{BranchStep, statement, once, within, cases, Removes, of_expression, of_statement, of_default, followed}
 use Rattle.branch_rules.specs.Statements.{as_statement, gives_nothing, all_give_nothing, Chooses, only_arm, no_arm, then_arm, else_arm, StatementStep, expression, choose, else_goes, branch_goes, while_true, while_false, while_never, for_first, for_update, for_true, for_false, for_no_update, for_no_body, for_never, do_true, label_empty, label_left, block_empty, block_one, try_inside, try_beside, try_alone, try_block}
@@ -108,7 +109,7 @@ module _ {mark : ℕ} (rs : List Span) where
   statement_same (try_alone p ss bs fs h q) = tried p ss bs h (node Absent fs ε) refl (try_alone p ss bs fs h q) (vars_stand q)
   statement_same {t} {us} (try_block ss bs hs fs cs) = plainly t us refl refl refl refl (statement_vars {mark = mark} (try_block ss bs hs fs cs)) (statement_becomes (try_block ss bs hs fs cs))
 
-  do_same : {t : Tree} {us : Forest} → DoStep mark true t us → Same mark t (as_statement rs us)
+  do_same : {t : Tree} {us : Forest} → DoStep mark every t us → Same mark t (as_statement rs us)
   do_same {t} {us} (do_once ss b a e p k o) = let s = do_once ss b a e p k o in plainly t us refl refl refl (do_stands s) (do_vars s) (do_becomes s)
 
   within_same : {t : Tree} {us : Forest} → WithinStep mark t us → Same mark t (as_statement rs us)

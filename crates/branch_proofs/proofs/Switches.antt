@@ -4,8 +4,8 @@ use Rattle.std.proofs.lemmas.Bool.{false≢true, and_parts}
 use Rattle.swc_ast.specs.declared.Span.{Span}
 use Rattle.swc_ast.specs.Tree.{Name, Break, Block, Tree, node, Forest, ε, ◌⊳◌}
 use Rattle.swc_ast.specs.Value.{Value, Undefined, State, Outcome, Done, Jumps, Outside, Cut, Run, and_then, Context, Meaning}
-use Rattle.swc_ast.specs.Scope.{joined, declared, Declared, found, is_found}
-use Rattle.swc_ast.specs.Meaning.{◌>>=◌, gives, Caller, in_scope, cell_of_declared, run_all, in_list_scope, at_break, Case, bodies_from, default_bodies, selected, act, eval, evals}
+use Rattle.swc_ast.specs.Scope.{joined, declared, Declared, is_found}
+use Rattle.swc_ast.specs.Meaning.{◌>>=◌, gives, in_scope, run_all, in_list_scope, at_break, bodies_from, default_bodies, selected, act, eval, evals}
 use Rattle.swc_ast.specs.Call.{call_at}
 use Rattle.swc_utils.specs.Pure.{pure, no_trees}
 use Rattle.pass_rules.specs.Values.{value_of}
@@ -22,7 +22,7 @@ use Rattle.branch_rules.specs.Statements.{Alone}
 use Rattle.branch_rules.specs.Vars.{Declares}
 use Rattle.branch_proofs.proofs.Becomes.{run_behind}
 use Rattle.branch_proofs.proofs.Dropped.{then_idle}
-use Rattle.branch_proofs.proofs.Loops.{given}
+use Rattle.branch_proofs.proofs.Loops.{given, refined_by}
 use Rattle.branch_proofs.proofs.Places.{discarded, open_block}
 use Rattle.branch_proofs.proofs.Declared.{all_declare}
 use Rattle.branch_proofs.proofs.Selected.{is_case, no_case, tests_no_case, no_case_given, tests_behind, cases, inner, switch_runs, bodies_run, default_behind, default_at, no_default_bodies, Suffixes, selected_holds, known_keeps, passed_front, passed_all, equal_step}
@@ -42,15 +42,9 @@ scope_refines ps h c = record { by = λ s. (h _).by _ }
 scope_nothing : (m : Meaning) (c : Context) → scope_of [] m c ≡ m c
 scope_nothing m c = fun_ext (λ s. in_nothing (λ x. is_found {A = Rattle.swc_ast.specs.Scope.Declaration} x []) _ m c s (λ x. refl))
 
-refined_break : (o p : Outcome Value) → Refined o p → Refined (at_break o) (at_break p)
-unfolding at_break
-refined_break (Done v s) p h = subst (λ q. Refined (at_break (Done v s)) (at_break q)) (sym h) refl
-refined_break (Jumps j s) p h = subst (λ q. Refined (at_break (Jumps j s)) (at_break q)) (sym h) ((refines_same (λ t. at_break (Jumps j t))).by s)
-refined_break Outside p h = tt
-refined_break Cut p h = tt
-
 pub break_refines : {m k : Run Value} → Refines m k → Refines (λ s. at_break (m s)) (λ s. at_break (k s))
-break_refines {m} {k} h = record { by = λ s. refined_break (m s) (k s) (h.by s) }
+unfolding at_break
+break_refines {m} {k} h = record { by = λ s. refined_by at_break (m s) (k s) refl refl (h.by s) }
 
 -- bodies are chosen, without doing anything, of which something is known
 chosen_break : (P : List Meaning → Type 0) (s : State) (o : Outcome (List Meaning)) (k : List Meaning → Run Value) (h : Run Value) → Quiet P s o → ((bs : List Meaning) → P bs → Refines (λ t. at_break (k bs t)) h) → Refined (at_break (and_then o k)) (h s)

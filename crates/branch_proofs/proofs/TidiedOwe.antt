@@ -21,9 +21,9 @@ use Rattle.branch_rules.specs.Vars.{each_once, those, names_left, all_names_left
 use Rattle.branch_rules.specs.Lists.{is_bare, all_bare, Swept, none_swept, item_stays, empty_goes, block_opens, going, Cut, uncut, past_item, cut_at, is_statement, all_statements, Tidied, kept_names}
 use Rattle.branch_proofs.proofs.Vars.{left_has}
 use Rattle.branch_proofs.proofs.ListForms as form
-use Rattle.branch_proofs.proofs.ListForms.{may_go, all_may_go, Sweeps, Cuts, Tidies, Hoists}
+use Rattle.branch_proofs.proofs.ListForms.{may_go, all_may_go, Sweeps, Cuts, Tidies}
 use Rattle.branch_proofs.proofs.ModuleForms as modules
-use Rattle.branch_proofs.proofs.ModuleForms.{all_declared, ModuleHoists, ModuleCuts}
+use Rattle.branch_proofs.proofs.ModuleForms.{ModuleHoists, ModuleCuts}
 use Rattle.branch_proofs.proofs.ModuleBinds.{module_step}
 use Rattle.branch_proofs.proofs.Modules.{lexical_names, lets_hold_none, consts_hold_none}
 use Rattle.branch_proofs.proofs.HoistsOf.{unset_bare, unset_names, unset_count, once_fewer, once_none, hoists_by}

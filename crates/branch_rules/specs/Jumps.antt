@@ -1,14 +1,24 @@
 -- Jumps that may leave a statement.
-use Rattle.std.specs.Prelude.{Bool, false, not, ◌&&◌, ◌||◌, List, ◌∷◌, Some, None}
+use Rattle.std.specs.Prelude.{Bool, true, false, not, ◌&&◌, ◌||◌, List, ◌∷◌, Some, None}
 use Rattle.swc_ast.specs.Tree.{Text, Fn, Arrow, Method, FnDecl, ExportDefaultFn, While, DoWhile, For, Labeled, Switch, Break, Continue, Tree, node, Forest, ε, ◌⊳◌}
 use Rattle.swc_ast.specs.Meaning.{has_label}
+
+-- With which labels `continue` is looked for: with every label, or only with some.
+pub data Sought : Type 0 where
+  every : Sought
+  only : List Text → Sought
+
+-- whether it is with this one
+abbrev pub is_sought : Sought → Text → Bool
+is_sought every l = true
+is_sought (only ls) l = has_label l ls
 
 -- Which jumps are looked for: `break`, `continue`, and `continue` with a label, but not with one of those of the loops round the
 -- place that are looked into themselves.
 pub record Kinds : Type 0 where
   pub breaks : Bool
   pub continues : Bool
-  pub labelled : Bool
+  pub labelled : Sought
   pub inside : List Text
 
 -- What is looked for in the body of a loop, and in the cases of a switch. The loop's own labels count too: they stand right in
@@ -24,7 +34,7 @@ abbrev mutual
   pub escapes_behind : List Text → Kinds → Tree → Bool
   escapes_behind near g (node (Break None) ss cs) = some_escape g cs || g.breaks
   escapes_behind near g (node (Continue None) ss cs) = some_escape g cs || g.continues
-  escapes_behind near g (node (Continue (Some l)) ss cs) = some_escape g cs || (g.labelled && not (has_label l g.inside))
+  escapes_behind near g (node (Continue (Some l)) ss cs) = some_escape g cs || (is_sought g.labelled l && not (has_label l g.inside))
   escapes_behind near g (node (Fn o) ss cs) = false
   escapes_behind near g (node Arrow ss cs) = false
   escapes_behind near g (node (FnDecl x) ss cs) = false

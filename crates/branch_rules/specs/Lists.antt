@@ -1,7 +1,7 @@
 -- What a list of statements becomes, once its items are walked: empty statements go and blocks that declare nothing are
 -- flattened, once each; then, behind the first direct stopper, only functions and module declarations stay, and the `var` names
 -- of the rest stand in front of it.
-use Rattle.std.specs.Prelude.{◌≡◌, Bool, true, false, ◌&&◌, ◌||◌, if◌then◌else◌, List, []}
+use Rattle.std.specs.Prelude.{◌≡◌, Bool, true, false, ◌&&◌, ◌||◌, if◌then◌else◌, List}
 use Rattle.swc_ast.specs.declared.Span.{Span}
 use Rattle.swc_ast.specs.Tree.{Name, Label, Empty, Block, VarDecl, Module, Tree, node, Forest, ε, ◌⊳◌}
 use Rattle.swc_ast.specs.Reach.{is_exported}

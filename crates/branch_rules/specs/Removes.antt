@@ -10,6 +10,7 @@ use Rattle.static_proofs.specs.Free.{is_folded, kind_at}
 use Rattle.tree_walk.specs.Pass.{Pass}
 use Rattle.pass_rules.specs.Defaults.{is_void}
 use Rattle.branch_rules.specs.Expressions.{ExpressionStep}
+use Rattle.branch_rules.specs.Jumps.{every}
 use Rattle.branch_rules.specs.Lists.{Tidied, kept_names}
 use Rattle.branch_rules.specs.Once.{DoStep}
 use Rattle.branch_rules.specs.Statements.{as_statement, StatementStep}
@@ -19,7 +20,7 @@ use Rattle.branch_rules.specs.Within.{WithinStep}
 -- some statements in the place of one
 pub data BranchStep (mark : ℕ) : Tree → Forest → Type 0 where
   statement : {t : Tree} {us : Forest} → StatementStep mark t us → BranchStep mark t us
-  once : {t : Tree} {us : Forest} → DoStep mark true t us → BranchStep mark t us
+  once : {t : Tree} {us : Forest} → DoStep mark every t us → BranchStep mark t us
   within : {t : Tree} {us : Forest} → WithinStep mark t us → BranchStep mark t us
   cases : {t : Tree} {us : Forest} → SwitchStep mark t us → BranchStep mark t us
 

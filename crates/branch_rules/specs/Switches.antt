@@ -10,14 +10,14 @@ use Rattle.pass_rules.specs.Values.{value_of}
 use Rattle.swc_utils.specs.Pure.{pure, no_trees}
 use Rattle.swc_ast.specs.Labels.{is_expression}
 use Rattle.static_proofs.specs.Shaped.{is_lexical}
-use Rattle.branch_rules.specs.Jumps.{Kinds, escapes, some_escape}
+use Rattle.branch_rules.specs.Jumps.{only, Kinds, escapes, some_escape}
 use Rattle.branch_rules.specs.Lists.{all_statements}
 use Rattle.branch_rules.specs.Statements.{Alone, as_statement, is_absent, all_plain, all_give_nothing}
 use Rattle.branch_rules.specs.Vars.{VarsOf}
 
 -- `break` of the switch
 abbrev pub breaking : Kinds
-breaking = record { breaks = true; continues = false; labelled = false; inside = [] }
+breaking = record { breaks = true; continues = false; labelled = only []; inside = [] }
 
 -- a case: its test, which for `default` is absent, and its statements
 pub record Clause : Type 0 where

@@ -1,6 +1,6 @@
 -- What stays of statements that go: their `var` names, each once and in order, in one declaration without first values. In a
 -- module the names of `let` and `const` that an export names stay with them.
-use Rattle.std.specs.Prelude.{Bool, true, false, if◌then◌else◌, List, [], ◌∷◌, ◌++◌}
+use Rattle.std.specs.Prelude.{Bool, if◌then◌else◌, List, [], ◌∷◌, ◌++◌}
 use Rattle.swc_ast.specs.declared.Span.{Span}
 use Rattle.swc_ast.specs.declared.VarDeclKind.TheVariants.{Var}
 use Rattle.swc_ast.specs.Tree.{Name, VarDecl, Declarator, Tree, node, Forest, ε, ◌⊳◌}
