@@ -1,7 +1,7 @@
 -- The names that stay of statements behind one that ends their list.
 use Rattle.std.proofs.Common.{◌≡◌, Bool, true, false, ◌==◌, if◌then◌else◌, List, [], ◌∷◌, ◌++◌, refl, sym, ap, ◌∙◌}
 use Rattle.swc_ast.specs.Tree as tree
-use Rattle.swc_ast.specs.Tree.{Name, Tree, node, Forest, ε, ◌⊳◌, label_of}
+use Rattle.swc_ast.specs.Tree.{Name, Tree, node, Forest, ◌⊳◌, label_of}
 use Rattle.swc_ast.specs.Parts.{ident_name, list_trees}
 use Rattle.swc_ast.specs.SameLaws.{impossible}
 use Rattle.swc_ast.specs.Scope.{vars, vars_all, declarator_names}

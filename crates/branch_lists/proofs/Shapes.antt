@@ -2,7 +2,7 @@
 use Rattle.std.proofs.Common.{◌≡◌, ℕ, Bool, true, false, ◌==◌, ◌&&◌, ◌≤◌, List, [], ◌∷◌, ◌++◌, length, map, refl, sym, ap, ap₂, subst, ◌∙◌, arith}
 use Rattle.std.specs.Cmp.{unsigned_Decides}
 use Rattle.swc_ast.specs.Tree as tree
-use Rattle.swc_ast.specs.Tree.{Name, Label, Tree, node, Forest, ε, ◌⊳◌, label_of}
+use Rattle.swc_ast.specs.Tree.{Name, Label, Tree, node, Forest, ε, label_of}
 use Rattle.swc_ast.specs.Parts.{list_trees, ident_name, word_text, option_word_text}
 use Rattle.swc_ast.specs.Redex.{is_loose, is_nothing, binds_nothing}
 use Rattle.swc_ast.specs.SameLaws.{impossible}

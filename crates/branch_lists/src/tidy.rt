@@ -1,6 +1,5 @@
 //! Lists of statements, and items of modules.
 ghost use Rattle.std.specs.Prelude.{IfOk};
-ghost use Rattle.swc_ast.specs.Modules.{item_tree};
 ghost use Rattle.swc_ast.specs.Parts.{list_trees};
 ghost use Rattle.swc_ast.specs.Tree.{Module};
 ghost use Rattle.swc_ast.specs.Views.{stmt_tree};
@@ -15,10 +14,13 @@ use crate::sweep::sweep;
 use std::alloc::{AllocError, Global};
 use std::mem;
 use stmt_like::StmtLike;
-use swc_ast::{ModuleItem, Stmt};
+use swc_ast::Stmt;
 
-/// Tidies a list.
-fn tidy_list<T: StmtLike + Drop>(alloc: Global, items: &mut Vec<T>) -> Result<bool, AllocError>
+/// Tidies the items of a module, or what stands for them: empty statements go and blocks that declare nothing are flattened,
+/// once each; then what stands behind the first statement that ends the list goes, off functions and module declarations, and
+/// its names of `var`, and those of `let` and `const` that the module exports, stand in front of that statement. False: the
+/// list is as it was, and there is nothing to tidy. Fails where memory is refused.
+pub fn tidy_items<T: StmtLike + Drop>(alloc: Global, items: &mut Vec<T>) -> Result<bool, AllocError>
     ensures { IfOk result (λ changed. ListTidied (kept_names Module (trees T.item items.old.items)) changed (trees T.item items.old.items) (trees T.item items.new.items)) }
 {
     if !is_untidy(items) {
@@ -31,20 +33,9 @@ fn tidy_list<T: StmtLike + Drop>(alloc: Global, items: &mut Vec<T>) -> Result<bo
     Ok(true)
 }
 
-/// Tidies the statements of a block, a body, a case or a script: empty statements go and blocks that declare nothing are
-/// flattened, once each; then what stands behind the first statement that ends the list goes, off functions, and its
-/// `var` names stand in front of that statement. False: the list is as it was, and there is nothing to tidy. Fails
-/// where memory is refused.
+/// The same of the statements of a block, a body, a case or a script: they export nothing.
 pub fn tidy_statements(alloc: Global, stmts: &mut Vec<Stmt>) -> Result<bool, AllocError>
     ensures { IfOk result (λ changed. ListTidied nothing_kept changed (list_trees stmt_tree stmts.old.items) (list_trees stmt_tree stmts.new.items)) }
 {
-    tidy_list(alloc, stmts)
-}
-
-/// The same of the items of a module: there module declarations stay too, and the names of `let` and `const` that the
-/// module exports stay with those of `var`.
-pub fn tidy_items(alloc: Global, items: &mut Vec<ModuleItem>) -> Result<bool, AllocError>
-    ensures { IfOk result (λ changed. ListTidied (kept_names Module (list_trees item_tree items.old.items)) changed (list_trees item_tree items.old.items) (list_trees item_tree items.new.items)) }
-{
-    tidy_list(alloc, items)
+    tidy_items(alloc, stmts)
 }

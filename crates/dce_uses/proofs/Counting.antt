@@ -12,7 +12,7 @@ use Rattle.dce_uses.specs.declared.tally.Fact.{Fact}
 use Rattle.dce_uses.specs.declared.tally.Tally.{Tally}
 use Rattle.dce_uses.specs.declared.table.Table.{Table}
 use Rattle.dce_uses.specs.declared.listed.Part.TheVariants as part
-use Rattle.dce_uses.specs.Noted.{is_hiding, by_arguments, own, unnamed, is_counted, function_name, below, noted, noted_among, noted_at}
+use Rattle.dce_uses.specs.Noted.{is_hiding, by_arguments, own, unnamed, is_counted, function_name, below, noted, noted_among}
 use Rattle.dce_uses.specs.Listed.{listed}
 use Rattle.dce_uses.specs.Tables.{IsNumbered, Notes, Restores, IsBefore, fact_of, holds}
 use Rattle.dce_uses.proofs.Adding.{or_false, and_false, and_or, next, said, nothing, none_named, Going, goes_on, ends}
@@ -63,20 +63,17 @@ no_more_declared u v us all is h =
 
 -- a node
 
-by_parts : (f : Fact) (x : Name) (p : Place) (t : Tree) → noted f x p t ≡ noted_at f x p (label_of t) (children_of t)
-by_parts f x p (node l ss cs) = refl
-
-opened_as : (f : Fact) (x : Name) (p : Place) (t : Tree) (l : Label) (cs : Forest) → label_of t ≡ l → children_of t ≡ cs → noted f x p t ≡ noted_at f x p l cs
-opened_as f x p t l cs labelled held = by_parts f x p t ∙ ap (λ k. noted_at f x p k (children_of t)) labelled ∙ ap (noted_at f x p l) held
+pub opened_as : (f : Fact) (x : Name) (p : Place) (t : Tree) (l : Label) (cs : Forest) → label_of t ≡ l → children_of t ≡ cs → noted f x p (node l [] cs) ≡ noted f x p t
+opened_as f x p (node k ss ds) l cs labelled held = sym (ap₂ (λ m us. noted f x p (node m [] us)) labelled held)
 
 -- uses and writes of a function's own name
 restored : (old new : Bool) (b : Bool) (before m : Bool) → (b ≡ true → before ≡ old) → new ≡ (if b then before else (old || m)) → new ≡ (old || (if b then false else m))
 restored old new true before m known h = h ∙ known refl ∙ sym (or_false old)
 restored old new false before m known h = h
 
--- a whole node
-pub counted_so : (u s v r w : Table) (p q : Place) (t : Tree) (l : Label) (cs : Forest) (xs : List Name) (before : Tally) → label_of t ≡ l → children_of t ≡ cs → xs ≡ function_name l → q ≡ below p l → IsBefore u xs before → Notes u s (λ f x. own f x p l) → Notes s v (λ f x. noted_among f x q cs) → Notes v r (λ f x. unnamed f x p l cs) → Restores r w xs before → Notes u w (λ f x. noted f x p t)
-counted_so u s v r w p q t l cs xs before labelled held function inside known own_noted among_noted unnamed_noted back =
+-- a node by its parts
+pub counted_so : (u s v r w : Table) (p q : Place) (l : Label) (cs : Forest) (xs : List Name) (before : Tally) → xs ≡ function_name l → q ≡ below p l → IsBefore u xs before → Notes u s (λ f x. own f x p l) → Notes s v (λ f x. noted_among f x q cs) → Notes v r (λ f x. unnamed f x p l cs) → Restores r w xs before → Notes u w (λ f x. noted f x p (node l [] cs))
+counted_so u s v r w p q l cs xs before function inside known own_noted among_noted unnamed_noted back =
     record { numbered = λ k. back.numbered (three.numbered k); facts = by }
   where
     more : Fact → Name → Bool
@@ -85,13 +82,16 @@ counted_so u s v r w p q t l cs xs before labelled held function inside known ow
     three : Notes u r more
     three = next u v r (λ f x. own f x p l || noted_among f x q cs) (λ f x. unnamed f x p l cs) (next u s v (λ f x. own f x p l) (λ f x. noted_among f x q cs) own_noted among_noted) unnamed_noted
 
-    by : IsNumbered u → (f : Fact) (x : Name) → fact_of w f x ≡ (fact_of u f x || noted f x p t)
+    by : IsNumbered u → (f : Fact) (x : Name) → fact_of w f x ≡ (fact_of u f x || noted f x p (node l [] cs))
     by k f x =
         restored (fact_of u f x) (fact_of w f x) (is_counted f && has_name x xs) (holds before f) (more f x)
         (λ is. known f x ((and_parts (is_counted f) (has_name x xs) is).1))
         (back.facts (three.numbered k) f x ∙ ap (λ b. if is_counted f && has_name x xs then holds before f else b) (three.facts k f x))
         ∙ ap₂ (λ ys o. fact_of u f x || (if is_counted f && has_name x ys then false else ((own f x p l || noted_among f x o cs) || unnamed f x p l cs))) function inside
-        ∙ ap (λ b. fact_of u f x || b) (sym (opened_as f x p t l cs labelled held))
+
+-- a whole node
+pub counted_as : (u v : Table) (p : Place) (t : Tree) (l : Label) (cs : Forest) → label_of t ≡ l → children_of t ≡ cs → Notes u v (λ f x. noted f x p (node l [] cs)) → Notes u v (λ f x. noted f x p t)
+counted_as u v p t l cs labelled held h = said u v (λ f x. noted f x p (node l [] cs)) (λ f x. noted f x p t) (λ f x. opened_as f x p t l cs labelled held) h
 
 -- children, one after another
 
@@ -101,8 +101,8 @@ among_split f x p t ts us is = ap (noted_among f x p) is
 pub among_none : (f : Fact) (x : Name) (p : Place) (us : Forest) → us ≡ ε → noted_among f x p us ≡ false
 among_none f x p us is = ap (noted_among f x p) is
 
-pub children_fall : (t : Tree) (cs : Forest) → children_of t ≡ cs → forest_size cs * 2 + 1 < tree_size t * 2
+pub children_fall : (t : Tree) (cs : Forest) → children_of t ≡ cs → forest_size cs * 3 + 2 < tree_size t * 3
 children_fall t cs is = let smaller = opened_smaller t cs is in omega (arith, smaller)
 
-pub child_falls : (t : Tree) (ts us cs : Forest) → us ≡ t ⊳ ts → forest_size us ≤ forest_size cs → tree_size t * 2 < forest_size cs * 2 + 1
+pub child_falls : (t : Tree) (ts us cs : Forest) → us ≡ t ⊳ ts → forest_size us ≤ forest_size cs → tree_size t * 3 < forest_size cs * 3 + 1
 child_falls t ts us cs is h = omega (arith, ap forest_size is, h)

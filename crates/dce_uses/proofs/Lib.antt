@@ -7,4 +7,5 @@ mod Seeing
 mod Lists
 mod Telling
 mod Told
+mod Items
 mod Unexported

@@ -1,11 +1,11 @@
--- Names that stand in lists, and those that items export.
-use Rattle.std.proofs.Common.{◌≡◌, Bool, true, false, ◌||◌, List, [], ◌++◌, sym, ap, ◌∙◌}
+-- Names that stand in lists.
+use Rattle.std.proofs.Common.{◌≡◌, Bool, List, [], ◌++◌, sym, ap, ◌∙◌}
 use Rattle.swc_ast.specs.Tree.{Name, Label, Tree, node, Forest, ε, ◌⊳◌, label_of, children_of}
 use Rattle.dce_uses.specs.declared.tally.Fact.{Fact}
 use Rattle.dce_uses.specs.declared.listed.Part.{Part}
 use Rattle.dce_uses.specs.declared.table.Table.{Table}
 use Rattle.dce_uses.specs.Listed.{listed_name, listed}
-use Rattle.dce_uses.specs.Exports.{declaration_names, first_names, item_names, exported_names, is_nameless_export, any_nameless}
+use Rattle.dce_uses.specs.Exports.{declaration_names, first_names}
 use Rattle.dce_uses.specs.Tables.{Notes}
 use Rattle.dce_uses.proofs.Adding.{Going, noted_apart, none_named, goes_on, ends}
 use Rattle.dce_uses.proofs.Counting.{alone}
@@ -30,24 +30,7 @@ listed_split p (node l ss cs) ts us k xs is labelled named = ap (listed p) is �
 pub listed_none : (p : Part) (us : Forest) → us ≡ ε → listed p us ≡ []
 listed_none p us is = ap (listed p) is
 
--- items
-
-pub exported_split : (t : Tree) (ts us cs : Forest) (l : Label) → us ≡ t ⊳ ts → label_of t ≡ l → children_of t ≡ cs → exported_names us ≡ item_names l cs ++ exported_names ts
-exported_split (node l ss cs) ts us ds k is labelled held = ap exported_names is ∙ ap (λ m. item_names m cs ++ exported_names ts) labelled ∙ ap (λ es. item_names k es ++ exported_names ts) held
+-- the declaration of an item
 
 pub first_as : (t : Tree) (ts us cs : Forest) (l : Label) → us ≡ t ⊳ ts → label_of t ≡ l → children_of t ≡ cs → first_names us ≡ declaration_names l cs
 first_as (node l ss cs) ts us ds k is labelled held = ap first_names is ∙ ap (λ m. declaration_names m cs) labelled ∙ ap (declaration_names k) held
-
--- default exports without a name
-
-nameless_split : (t : Tree) (ts us : Forest) (l : Label) → us ≡ t ⊳ ts → label_of t ≡ l → any_nameless us ≡ (is_nameless_export l || any_nameless ts)
-nameless_split (node l ss cs) ts us k is labelled = ap any_nameless is ∙ ap (λ m. is_nameless_export m || any_nameless ts) labelled
-
-pub nameless_here : (t : Tree) (ts us : Forest) (l : Label) (g : Bool) → us ≡ t ⊳ ts → label_of t ≡ l → is_nameless_export l ≡ true → any_nameless us ≡ g → true ≡ g
-nameless_here t ts us l g is labelled found h = sym (nameless_split t ts us l is labelled ∙ ap (λ b. b || any_nameless ts) found) ∙ h
-
-pub nameless_behind : (t : Tree) (ts us : Forest) (l : Label) (g : Bool) → us ≡ t ⊳ ts → label_of t ≡ l → is_nameless_export l ≡ false → any_nameless us ≡ g → any_nameless ts ≡ g
-nameless_behind t ts us l g is labelled none h = sym (nameless_split t ts us l is labelled ∙ ap (λ b. b || any_nameless ts) none) ∙ h
-
-pub nameless_ends : (us : Forest) (g : Bool) → us ≡ ε → any_nameless us ≡ g → false ≡ g
-nameless_ends us g is h = sym (ap any_nameless is) ∙ h

@@ -45,8 +45,8 @@ put t (i ∷ is) k = by (str_cmp k i) refl (put t is k)
     by Equal ordered rest = ap (λ o. has_text t (texts (match_ordering o (k ∷ i ∷ is) (i ∷ is) (i ∷ insert_key str_cmp is k)))) ordered ∙ or_again (bytes_eq t i.now) (has_text t (texts is)) ∙ ap (λ u. has_text t (texts (i ∷ is)) || bytes_eq t u) (sym (exact_bytes k.now i.now ordered))
     by Greater ordered rest = ap (λ o. has_text t (texts (match_ordering o (k ∷ i ∷ is) (i ∷ is) (i ∷ insert_key str_cmp is k)))) ordered ∙ ap (λ b. bytes_eq t i.now || b) rest ∙ sym (or_grouped (bytes_eq t i.now) (has_text t (texts is)) (bytes_eq t k.now))
 
--- the first of the texts that are left, and those behind it
-first_left : (left : List (String Global)) (s : String Global) → 1 ≤ length left → s ≡ get_or left 0 s → left ≡ s ∷ take (length left - 1) (drop 1 left)
+-- the first of what is left, and what stands behind it
+pub first_left : {X : Type 0} (left : List X) (s : X) → 1 ≤ length left → s ≡ get_or left 0 s → left ≡ s ∷ take (length left - 1) (drop 1 left)
 first_left [] s some is = absurd (omega (arith, some))
 first_left (m ∷ ms) s some is = ap₂ (λ k ks. k ∷ ks) (sym is) (sym (take_all (length (m ∷ ms) - 1) ms (omega arith)))
 

@@ -1,5 +1,5 @@
 -- What is seen in nodes and in trees in a row.
-use Rattle.std.proofs.Common.{◌≡◌, false, ◌||◌, sym, ap, ap₂, ◌∙◌}
+use Rattle.std.proofs.Common.{◌≡◌, false, ◌||◌, [], sym, ap, ap₂, ◌∙◌}
 use Rattle.std.specs.Prelude.{if◌then◌else◌}
 use Rattle.swc_ast.specs.Tree.{Label, Tree, node, Forest, ε, ◌⊳◌, label_of, children_of}
 use Rattle.swc_ast.specs.Reach.{named_by}
@@ -16,11 +16,15 @@ eval_at (node l ss cs) k ds labelled held = ap₂ (λ m us. is_eval m || any_eva
 arguments_at : (t : Tree) (l : Label) (cs : Forest) → label_of t ≡ l → children_of t ≡ cs → names_arguments t ≡ (if has_arguments l then false else (is_arguments (named_by l) || any_arguments cs))
 arguments_at (node l ss cs) k ds labelled held = ap₂ (λ m us. if has_arguments m then false else (is_arguments (named_by m) || any_arguments us)) labelled held
 
-pub seen_at : (t : Tree) (l : Label) (cs : Forest) (inside s : Seen) → label_of t ≡ l → children_of t ≡ cs → SeesAmong inside cs → IsWith inside l s → Sees s t
-seen_at t l cs inside s labelled held among h = record {
-  eval = h.eval ∙ ap (λ b. is_eval l || b) among.eval ∙ sym (eval_at t l cs labelled held);
-  arguments = h.arguments ∙ ap (λ b. if has_arguments l then false else (is_arguments (named_by l) || b)) among.arguments ∙ sym (arguments_at t l cs labelled held);
+pub seen_at : (l : Label) (cs : Forest) (inside s : Seen) → SeesAmong inside cs → IsWith inside l s → Sees s (node l [] cs)
+seen_at l cs inside s among h = record {
+  eval = h.eval ∙ ap (λ b. is_eval l || b) among.eval;
+  arguments = h.arguments ∙ ap (λ b. if has_arguments l then false else (is_arguments (named_by l) || b)) among.arguments;
 }
+
+-- the same of a whole node
+pub seen_as : (t : Tree) (l : Label) (cs : Forest) (s : Seen) → label_of t ≡ l → children_of t ≡ cs → Sees s (node l [] cs) → Sees s t
+seen_as t l cs s labelled held h = record { eval = h.eval ∙ sym (eval_at t l cs labelled held); arguments = h.arguments ∙ sym (arguments_at t l cs labelled held) }
 
 -- children, one after another
 

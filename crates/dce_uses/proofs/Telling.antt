@@ -16,7 +16,7 @@ use Rattle.dce_uses.proofs.Adding.{or_false, or_true, or_swap, and_false}
 
 -- truth values
 
-or_mix : (a b c d : Bool) → ((a || b) || (c || d)) ≡ ((a || c) || (b || d))
+pub or_mix : (a b c d : Bool) → ((a || b) || (c || d)) ≡ ((a || c) || (b || d))
 or_mix true b c d = refl
 or_mix false true true d = refl
 or_mix false true false d = refl

@@ -2,7 +2,7 @@
 use Rattle.std.proofs.Common.{◌≡◌, Bool, true, false, not, ◌||◌, ◌&&◌, List, [], ◌∷◌, ◌++◌, Some, None, refl, sym, ap, ap₂, ◌∙◌}
 use Rattle.swc_ast.specs.Tree as tree
 use Rattle.swc_ast.specs.declared.Span.{Span}
-use Rattle.swc_ast.specs.Tree.{Text, Name, Label, same_name, Tree, node, Forest, ε, ◌⊳◌, label_of, children_of}
+use Rattle.swc_ast.specs.Tree.{Text, Name, Label, same_name, Tree, node, Forest, ε, ◌⊳◌}
 use Rattle.swc_ast.specs.Scope.{has_name, default_name, declarator_name, declarator_names}
 use Rattle.swc_ast.specs.Run.{own_texts, specifier_exports, item_exports, exported}
 use Rattle.swc_ast.specs.Reach.{is_exported}
@@ -17,8 +17,7 @@ use Rattle.dce_uses.specs.Noted.{is_hiding, noted, at_top}
 use Rattle.dce_uses.specs.Listed.{listed}
 use Rattle.dce_uses.specs.Exports.{first_names, item_names, exported_names, is_nameless_export, any_nameless}
 use Rattle.dce_uses.specs.Tables.{IsBlank, Notes, Tells, fact_of, is_default, is_hidden}
-use Rattle.dce_uses.proofs.Adding.{next, or_false, or_true, or_grouped, or_swap, and_false}
-use Rattle.dce_uses.proofs.Counting.{alone}
+use Rattle.dce_uses.proofs.Adding.{or_false, or_true, or_grouped, or_swap, and_false}
 use Rattle.dce_uses.proofs.Telling.{readings, declarations, namings, hidings}
 
 -- what is exported
@@ -90,33 +89,6 @@ tells u t exports facts said = record {
 -- facts of a table in which nothing was noted before
 pub known : (u w : Table) (more : Fact → Name → Bool) → IsBlank u → Notes u w more → (f : Fact) (x : Name) → fact_of w f x ≡ more f x
 known u w more blank notes f x = notes.facts blank.numbered f x ∙ ap (λ b. b || more f x) (blank.facts f x)
-
--- a module
-
-pub module_told : (u : Uses) (start counted : Table) (ss : List Span) (items : Forest) → IsBlank start → Notes start counted (λ f x. noted f x at_top (node tree.Module ss items)) → Notes counted u.table (alone is_hiding (exported_names items)) → u.exports_default ≡ any_nameless items → Tells u (node tree.Module ss items)
-module_told u start counted ss items blank counts exports unnamed =
-    let t = node tree.Module ss items in
-    tells u t (λ x. has_name x (exported_names items))
-    (known start u.table (λ f x. noted f x at_top t || alone is_hiding (exported_names items) f x) blank (next start counted u.table (λ f x. noted f x at_top t) (alone is_hiding (exported_names items)) counts exports))
-    (λ x. exported_as x items ∙ ap (λ b. has_name x (exported_names items) || (b && same_name x default_name)) (sym unnamed))
-
--- an item by itself
-
-in_module : (f : Fact) (x : Name) (t : Tree) → noted f x at_top (node tree.Module [] (t ⊳ ε)) ≡ noted f x at_top t
-in_module fact.Used x t = or_false _ ∙ or_false _
-in_module fact.Written x t = or_false _ ∙ or_false _
-in_module fact.Abroad x t = or_false _ ∙ or_false _
-in_module fact.Declared x t = or_false _ ∙ or_false _
-in_module fact.Held x t = or_false _ ∙ or_false _
-in_module fact.Hidden x t = or_false _ ∙ or_false _
-
-pub item_told : (u : Uses) (start counted : Table) (t : Tree) → IsBlank start → Notes start counted (λ f x. noted f x at_top t) → Notes counted u.table (alone is_hiding (item_names (label_of t) (children_of t))) → u.exports_default ≡ is_nameless_export (label_of t) → Tells u (node tree.Module [] (t ⊳ ε))
-item_told u start counted (node l ss cs) blank counts exports unnamed =
-    let t = node l ss cs in
-    tells u (node tree.Module [] (t ⊳ ε)) (λ x. has_name x (item_names l cs))
-    (λ f x. known start u.table (λ f x. noted f x at_top t || alone is_hiding (item_names l cs) f x) blank (next start counted u.table (λ f x. noted f x at_top t) (alone is_hiding (item_names l cs)) counts exports) f x
-    ∙ ap (λ b. b || alone is_hiding (item_names l cs) f x) (sym (in_module f x t)))
-    (λ x. exported_append x (item_exports l cs) [] ∙ or_false (is_exported x (item_exports l cs)) ∙ item_exported x l cs ∙ ap (λ b. has_name x (item_names l cs) || (b && same_name x default_name)) (sym unnamed))
 
 -- a script
 

@@ -2,4 +2,5 @@ pub mod Noted
 pub mod Listed
 pub mod Exports
 pub mod Tables
+pub mod Items
 pub mod Sights

@@ -3,10 +3,13 @@ use Rattle.std.specs.Prelude.{Bool, true, false, not, ◌&&◌, ◌||◌, if◌t
 use Rattle.swc_ast.specs.declared.AssignOp.{AssignOp}
 use Rattle.swc_ast.specs.declared.AssignOp.TheVariants.{Assign as Plain}
 use Rattle.swc_ast.specs.declared.VarDeclKind.TheVariants.{Var}
-use Rattle.swc_ast.specs.Tree.{Name, Label, Assign, Update, Params, Block, Declarator, FnDecl, ExportDefaultFn, Tree, node, Forest, ε, ◌⊳◌}
+use Rattle.swc_ast.specs.Tree.{Name, Label, Assign, Update, Block, Declarator, FnDecl, ExportDefaultFn, Tree, node, Forest, ε, ◌⊳◌}
 use Rattle.swc_ast.specs.Scope.{is_function, has_name, option_name, param_names}
 use Rattle.swc_ast.specs.Resolved.{params_of}
 use Rattle.swc_ast.specs.Reach.{named_by}
+use Rattle.tree_visit.specs.Kinds.{kind_label}
+use Rattle.tree_visit.specs.Nodes.{children_forest}
+use Rattle.tree_visit.specs.declared.opened.Opened.{Opened}
 use Rattle.dce_rules.specs.Uses.{has_arguments, any_arguments, any_eval, declared_by_node, declared_among}
 use Rattle.dce_uses.specs.declared.place.Place.{Place}
 use Rattle.dce_uses.specs.declared.tally.Fact.{Fact}
@@ -122,6 +125,6 @@ abbrev mutual
   noted_among f x p ε = false
   noted_among f x p (t ⊳ ts) = noted f x p t || noted_among f x p ts
 
--- the same of a node by its parts
-abbrev pub noted_at : Fact → Name → Place → Label → Forest → Bool
-noted_at f x p l cs = if is_counted f && has_name x (function_name l) then false else ((own f x p l || noted_among f x (below p l) cs) || unnamed f x p l cs)
+-- a node that was opened, as a tree
+abbrev pub opened_tree : Opened → Tree
+opened_tree o = node (kind_label o.kind) [] (children_forest o.children)

@@ -20,9 +20,10 @@ use crate::table::Table;
 use crate::tally::Tally;
 use std::alloc::AllocError;
 use swc_ast::Ident;
-use tree_visit::{Children, Kind, Node};
+use tree_visit::{Children, Kind, Node, Opened};
 
 /// What a node says of the name that it reads or writes.
+#[inline(always)]
 fn naming(kind: Kind<'_>, place: Place) -> Tally
     ensures { (f : facts.Fact) → holds result f ≡ noted.naming f place (kind_label kind.entry) }
 {
@@ -35,6 +36,7 @@ fn naming(kind: Kind<'_>, place: Place) -> Tally
 }
 
 /// What a node says of the name that it declares.
+#[inline(always)]
 fn declaring(kind: Kind<'_>, place: Place) -> Tally
     ensures { (f : facts.Fact) → holds result f ≡ noted.declaring f place (kind_label kind.entry) }
 {
@@ -52,7 +54,20 @@ impl Table {
         ensures notes { OnOk result (Notes self.old self.new (λ f x. noted.noted f x place (node_tree n.entry))) }
         ensures seen { IfOk result (λ s. Sees s (node_tree n.entry)) }
     {
-        let opened = n.open();
+        self.count_opened(n.open(), place)
+    }
+
+    /// The same of a node that was opened.
+    #[cycle(count)]
+    #[inline(always)]
+    pub(crate) fn count_opened(
+        &mut self,
+        opened: Opened<'_>,
+        place: Place,
+    ) -> Result<Seen, AllocError>
+        ensures notes { OnOk result (Notes self.old self.new (λ f x. noted.noted f x place (noted.opened_tree opened.entry))) }
+        ensures seen { IfOk result (λ s. Sees s (noted.opened_tree opened.entry)) }
+    {
         let function = function_name(opened.kind);
         let before = self.tally_before(function);
         self.note(opened.kind, place)?;
@@ -64,6 +79,7 @@ impl Table {
 
     /// Notes what trees say of names. Gives what is seen in them.
     #[cycle(count)]
+    #[inline(always)]
     fn count_all(&mut self, children: Children<'_>, place: Place) -> Result<Seen, AllocError>
         ensures notes { OnOk result (Notes self.old self.new (λ f x. noted.noted_among f x place (children_forest children.entry))) }
         ensures seen { IfOk result (λ s. SeesAmong s (children_forest children.entry)) }
@@ -79,6 +95,7 @@ impl Table {
     }
 
     /// Notes what a node says by itself.
+    #[inline(always)]
     fn note(&mut self, kind: Kind<'_>, place: Place) -> Result<(), AllocError>
         ensures { OnOk result (Notes self.old self.new (λ f x. noted.own f x place (kind_label kind.entry))) }
     {
@@ -87,6 +104,7 @@ impl Table {
     }
 
     /// Notes the name that a node reads or writes.
+    #[inline(always)]
     fn note_named(&mut self, kind: Kind<'_>, place: Place) -> Result<(), AllocError>
         ensures { OnOk result (Notes self.old self.new (λ f x. noted.by_naming f x place (kind_label kind.entry))) }
     {
@@ -97,6 +115,7 @@ impl Table {
     }
 
     /// Notes the name that a node declares.
+    #[inline(always)]
     fn note_declared(&mut self, kind: Kind<'_>, place: Place) -> Result<(), AllocError>
         ensures { OnOk result (Notes self.old self.new (λ f x. noted.by_declaring f x place (kind_label kind.entry))) }
     {
@@ -107,6 +126,7 @@ impl Table {
     }
 
     /// Notes the names that a function uses without naming them, by what is seen among its children.
+    #[inline(always)]
     fn note_unnamed(
         &mut self,
         kind: Kind<'_>,
@@ -122,6 +142,7 @@ impl Table {
     }
 
     /// Notes the parameters of a function that names `arguments`.
+    #[inline(always)]
     fn note_arguments(
         &mut self,
         kind: Kind<'_>,
@@ -139,6 +160,7 @@ impl Table {
     }
 
     /// Notes the names that are declared in a function that calls `eval`, unless it stands in another.
+    #[inline(always)]
     fn note_seen(
         &mut self,
         kind: Kind<'_>,
@@ -172,6 +194,7 @@ impl Table {
     }
 
     /// What was noted of a function's name in front of its declaration.
+    #[inline(always)]
     fn tally_before(&self, function: Option<&Ident>) -> Tally
         ensures { IsBefore self.now (optional function.entry) result }
     {

@@ -27,36 +27,8 @@ pub(crate) fn is_nameless(kind: Kind<'_>) -> bool
     }
 }
 
-/// Whether a default export among items has no name.
-#[tactic(auto, using(tree_visit::proofs::Caps::rest_falls, crate::proofs::Lists::nameless_here, crate::proofs::Lists::nameless_behind, crate::proofs::Lists::nameless_ends))]
-pub(crate) fn any_nameless(items: Children<'_>) -> bool
-    ensures { result ≡ exports.any_nameless (children_forest items.entry) }
-{
-    let mut left = items;
-    while let Some((item, rest)) = left.next() {
-        if is_nameless(item.open().kind) {
-            return true;
-        }
-        left = rest;
-    }
-    false
-}
-
 impl Table {
-    /// Notes the names that items export: they are used.
-    pub(crate) fn note_exports(&mut self, items: Children<'_>) -> Result<(), AllocError>
-        ensures { OnOk result (Notes self.old self.new (λ f x. is_hiding f && has_name x (exports.exported_names (children_forest items.entry)))) }
-    {
-        let mut left = items;
-        while let Some((item, rest)) = left.next() {
-            let opened = item.open();
-            self.note_exported(opened.kind, opened.children)?;
-            left = rest;
-        }
-        Ok(())
-    }
-
-    /// Notes the names that an item exports.
+    /// Notes the names that an item exports: they are used.
     pub(crate) fn note_exported(
         &mut self,
         kind: Kind<'_>,

@@ -11,6 +11,7 @@ ghost use Rattle.dce_uses.specs.Noted as noted;
 use swc_ast::{AssignOp, Ident};
 use tree_visit::Kind;
 
+#[inline(always)]
 fn is_plain(op: AssignOp) -> bool
     ensures { result ≡ noted.is_plain_assignment op }
 {
@@ -21,6 +22,7 @@ fn is_plain(op: AssignOp) -> bool
 }
 
 /// Whether a node that names something reads it: all but plain assignments do.
+#[inline(always)]
 pub fn is_read(kind: Kind<'_>) -> bool
     ensures { result ≡ noted.reads (kind_label kind.entry) }
 {
@@ -31,6 +33,7 @@ pub fn is_read(kind: Kind<'_>) -> bool
 }
 
 /// Whether a node that names something writes it.
+#[inline(always)]
 pub(crate) fn is_written(kind: Kind<'_>) -> bool
     ensures { result ≡ noted.writes (kind_label kind.entry) }
 {
@@ -41,6 +44,7 @@ pub(crate) fn is_written(kind: Kind<'_>) -> bool
 }
 
 /// The name that a node itself reads, writes or exports.
+#[inline(always)]
 pub fn named<'a>(kind: Kind<'a>) -> Option<&'a Ident>
     ensures { optional result ≡ named_by (kind_label kind.entry) }
 {
@@ -57,6 +61,7 @@ pub fn named<'a>(kind: Kind<'a>) -> Option<&'a Ident>
 }
 
 /// The name that a node itself declares.
+#[inline(always)]
 pub fn declared_name<'a>(kind: Kind<'a>) -> Option<&'a Ident>
     ensures { optional result ≡ uses.declared_by_node (kind_label kind.entry) }
 {
@@ -77,6 +82,7 @@ pub fn declared_name<'a>(kind: Kind<'a>) -> Option<&'a Ident>
 }
 
 /// The name of a function that a node declares.
+#[inline(always)]
 pub fn function_name<'a>(kind: Kind<'a>) -> Option<&'a Ident>
     ensures { optional result ≡ noted.function_name (kind_label kind.entry) }
 {
@@ -88,6 +94,7 @@ pub fn function_name<'a>(kind: Kind<'a>) -> Option<&'a Ident>
 }
 
 /// Whether a node is a function or an arrow.
+#[inline(always)]
 pub(crate) fn is_function(kind: Kind<'_>) -> bool
     ensures { result ≡ is_function_label (kind_label kind.entry) }
 {
@@ -100,6 +107,7 @@ pub(crate) fn is_function(kind: Kind<'_>) -> bool
 }
 
 /// Whether a node is a function that has its own `arguments`.
+#[inline(always)]
 pub(crate) fn has_arguments(kind: Kind<'_>) -> bool
     ensures { result ≡ uses.has_arguments (kind_label kind.entry) }
 {
@@ -110,6 +118,7 @@ pub(crate) fn has_arguments(kind: Kind<'_>) -> bool
 }
 
 /// Whether a node is the declaration of a function.
+#[inline(always)]
 pub(crate) fn is_declaration(kind: Kind<'_>) -> bool
     ensures { result ≡ noted.is_function_declaration (kind_label kind.entry) }
 {
@@ -120,6 +129,7 @@ pub(crate) fn is_declaration(kind: Kind<'_>) -> bool
 }
 
 /// Whether a node is a direct call of `eval`.
+#[inline(always)]
 pub(crate) fn is_eval(kind: Kind<'_>) -> bool
     ensures { result ≡ uses.is_eval (kind_label kind.entry) }
 {
@@ -130,6 +140,7 @@ pub(crate) fn is_eval(kind: Kind<'_>) -> bool
 }
 
 /// Whether a node names `arguments`.
+#[inline(always)]
 pub(crate) fn is_arguments(kind: Kind<'_>) -> bool
     ensures { result ≡ uses.is_arguments (named_by (kind_label kind.entry)) }
 {
@@ -140,6 +151,7 @@ pub(crate) fn is_arguments(kind: Kind<'_>) -> bool
 }
 
 /// Whether a node is a block or the body of a function.
+#[inline(always)]
 pub(crate) fn is_block(kind: Kind<'_>) -> bool
     ensures { result ≡ noted.is_block_or_function (kind_label kind.entry) }
 {
@@ -150,6 +162,7 @@ pub(crate) fn is_block(kind: Kind<'_>) -> bool
 }
 
 /// Whether a node holds the parameters of a function.
+#[inline(always)]
 pub(crate) fn is_params(kind: Kind<'_>) -> bool
     ensures { result ≡ is_params (kind_label kind.entry) }
 {

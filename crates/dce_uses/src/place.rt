@@ -19,6 +19,7 @@ pub(crate) struct Place {
 
 impl Place {
     /// The place of a whole module.
+    #[inline(always)]
     pub(crate) fn top() -> Place
         ensures { result ≡ noted.at_top }
     {
@@ -31,6 +32,7 @@ impl Place {
     }
 
     /// The place of a node's children.
+    #[inline(always)]
     pub(crate) fn below(self, kind: Kind<'_>) -> Place
         ensures { result ≡ noted.below self (kind_label kind.entry) }
     {
@@ -43,6 +45,7 @@ impl Place {
     }
 
     /// Whether a declaration stands below the top level: functions and `var` in a function, others in a block.
+    #[inline(always)]
     pub(crate) fn lets_go(self, kind: Kind<'_>) -> bool
         ensures { result ≡ noted.lets_go self (kind_label kind.entry) }
     {

@@ -17,6 +17,7 @@ pub(crate) struct Seen {
 
 impl Seen {
     /// Neither.
+    #[inline(always)]
     pub(crate) fn nothing() -> Seen
         ensures eval { result.eval ≡ false }
         ensures arguments { result.arguments ≡ false }
@@ -28,6 +29,7 @@ impl Seen {
     }
 
     /// What is seen in either of two.
+    #[inline(always)]
     pub(crate) fn or(self, other: Seen) -> Seen
         ensures eval { result.eval ≡ (self.eval || other.eval) }
         ensures arguments { result.arguments ≡ (self.arguments || other.arguments) }
@@ -39,6 +41,7 @@ impl Seen {
     }
 
     /// What is seen in a node among whose children this is.
+    #[inline(always)]
     pub(crate) fn with(self, kind: Kind<'_>) -> Seen
         ensures { sights.IsWith self (kind_label kind.entry) result }
     {

@@ -31,6 +31,7 @@ impl Table {
     }
 
     /// What was noted of a name, nothing where it has no number.
+    #[inline(always)]
     pub(crate) fn tally(&self, name: &Ident) -> Tally
         ensures { (f : facts.Fact) → holds result f ≡ fact_of self.now f (ident_name name.now) }
     {
@@ -45,6 +46,7 @@ impl Table {
     }
 
     /// The number of a name, a new one where it has none.
+    #[inline(always)]
     fn number(&mut self, name: &Ident) -> Result<usize, AllocError>
         ensures { IfOk result (λ n. Numbers self.old self.new (ident_name name.now) n) }
     {
@@ -56,6 +58,7 @@ impl Table {
     }
 
     /// Notes more of a name.
+    #[inline(always)]
     pub(crate) fn add_tally(&mut self, name: &Ident, more: Tally) -> Result<(), AllocError>
         ensures { OnOk result (Notes self.old self.new (λ f x. holds more f && has_name x (ident_name name.now ∷ []))) }
     {
@@ -77,6 +80,7 @@ impl Table {
     }
 
     /// Uses and writes of a name, if there is one, become those of before: what was counted since doesn't count.
+    #[inline(always)]
     pub(crate) fn restore(&mut self, name: Option<&Ident>, before: Tally) -> Result<(), AllocError>
         ensures { OnOk result (Restores self.old self.new (optional name.entry) before) }
     {

@@ -34,6 +34,7 @@ pub(crate) struct Tally {
 
 impl Tally {
     /// Nothing was noted.
+    #[inline(always)]
     pub(crate) fn empty() -> Tally
         ensures { (f : facts.Fact) → holds result f ≡ false }
     {
@@ -48,6 +49,7 @@ impl Tally {
     }
 
     /// Whether a fact was noted.
+    #[inline(always)]
     pub(crate) fn has(self, fact: Fact) -> bool
         ensures { result ≡ holds self fact }
     {
@@ -62,6 +64,7 @@ impl Tally {
     }
 
     /// That a name is used without being named.
+    #[inline(always)]
     pub(crate) fn hidden() -> Tally
         ensures { (f : facts.Fact) → holds result f ≡ is_hiding f }
     {
@@ -72,6 +75,7 @@ impl Tally {
     }
 
     /// What was noted in either of two.
+    #[inline(always)]
     pub(crate) fn and(self, other: Tally) -> Tally
         ensures { (f : facts.Fact) → holds result f ≡ (holds self f || holds other f) }
     {
@@ -86,6 +90,7 @@ impl Tally {
     }
 
     /// The same with the uses and writes of another.
+    #[inline(always)]
     pub(crate) fn counted_as(self, other: Tally) -> Tally
         ensures { (f : facts.Fact) → holds result f ≡ (if is_counted f then holds other f else holds self f) }
     {

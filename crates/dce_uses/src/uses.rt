@@ -1,21 +1,26 @@
 //! How the names of a tree are used.
-ghost use Rattle.std.specs.Prelude.{◌≡◌, [], IfOk, IfErr};
-ghost use Rattle.swc_ast.specs.Modules.{module_tree, script_tree};
-ghost use Rattle.swc_ast.specs.Parts.{ident_name};
+ghost use Rattle.std.specs.Prelude.{◌≡◌, List, [], IfOk, IfErr, OnOk};
+ghost use Rattle.swc_ast.specs.Modules.{item_tree, module_tree, script_tree};
+ghost use Rattle.swc_ast.specs.Parts.{ident_name, list_trees};
 ghost use Rattle.swc_ast.specs.Scope.{default_name};
 ghost use Rattle.swc_ast.specs.Tree as trees;
 ghost use Rattle.swc_ast.specs.Tree.{same_name, node, ε, ◌⊳◌};
+ghost use Rattle.swc_ast.specs.declared.Span.{Span};
 ghost use Rattle.swc_ast.specs.declared.errors.PassError.TheVariants.{OutOfMemory};
-ghost use Rattle.tree_visit.specs.Nodes.{node_tree};
+ghost use Rattle.tree_visit.specs.Kinds.{kind_label};
+ghost use Rattle.tree_visit.specs.Nodes.{node_tree, children_forest};
 ghost use Rattle.dce_uses.specs.Tables as tables;
+ghost use Rattle.dce_uses.specs.Items.{IsUnused, NotesItem};
 
-use crate::exports::{any_nameless, is_nameless};
+use crate::exports::is_nameless;
 use crate::place::Place;
 use crate::table::Table;
 use crate::tally::Fact;
-use std::alloc::Global;
+use std::alloc::{AllocError, Global};
+use stmt_like::StmtLike;
 use swc_ast::{Ident, Module, PassError, Script, SyntaxContext};
-use tree_visit::Node;
+use swc_names::open_item;
+use tree_visit::{Node, Opened};
 
 /// How the names of a module or a script are used, in all its places.
 #[derive(Drop)]
@@ -32,19 +37,46 @@ pub fn is_default(name: &Ident) -> bool
 }
 
 impl Uses {
+    /// Uses of which nothing was noted.
+    fn nothing(alloc: Global) -> Uses
+        ensures { IsUnused result }
+    {
+        Uses {
+            table: Table::new(alloc),
+            exports_default: false,
+        }
+    }
+
+    /// Notes how an item of a module uses names.
+    fn note_item(&mut self, item: Opened<'_>) -> Result<(), AllocError>
+        ensures { OnOk result (NotesItem self.old self.new (kind_label item.entry.kind) (children_forest item.entry.children)) }
+    {
+        self.table.count_opened(item, Place::top())?;
+        self.table.note_exported(item.kind, item.children)?;
+        self.exports_default = self.exports_default | is_nameless(item.kind);
+        Ok(())
+    }
+
+    /// How the items of a module use its names, or what stands for them. Refuses where memory is refused.
+    pub fn of_items<T: StmtLike>(alloc: Global, items: &[T]) -> Result<Uses, PassError>
+        ensures tells { IfOk result (λ u. (ss : List Span) → tables.Tells u (node trees.Module ss (list_trees (λ x. item_tree (T.item x)) items.now))) }
+        ensures memory { IfErr result (λ e. e ≡ OutOfMemory) }
+    {
+        let mut uses = Uses::nothing(alloc);
+        let mut left = items;
+        while let [item, rest @ ..] = left {
+            uses.note_item(open_item(item))?;
+            left = rest;
+        }
+        Ok(uses)
+    }
+
     /// How a module uses its names. Refuses where memory is refused.
     pub fn of_module(alloc: Global, m: &Module) -> Result<Uses, PassError>
         ensures tells { IfOk result (λ u. tables.Tells u (module_tree m.now)) }
         ensures memory { IfErr result (λ e. e ≡ OutOfMemory) }
     {
-        let mut table = Table::new(alloc);
-        table.count(Node::Module(m), Place::top())?;
-        let items = Node::Module(m).open().children;
-        table.note_exports(items)?;
-        Ok(Uses {
-            table,
-            exports_default: any_nameless(items),
-        })
+        Uses::of_items(alloc, &m.body)
     }
 
     /// How a script uses its names: it exports nothing. Refuses where memory is refused.
@@ -52,12 +84,9 @@ impl Uses {
         ensures tells { IfOk result (λ u. tables.Tells u (script_tree s.now)) }
         ensures memory { IfErr result (λ e. e ≡ OutOfMemory) }
     {
-        let mut table = Table::new(alloc);
-        table.count(Node::Script(s), Place::top())?;
-        Ok(Uses {
-            table,
-            exports_default: false,
-        })
+        let mut uses = Uses::nothing(alloc);
+        uses.table.count(Node::Script(s), Place::top())?;
+        Ok(uses)
     }
 
     /// How an item of a module's list uses its names, by itself. Refuses where memory is refused.
@@ -65,14 +94,9 @@ impl Uses {
         ensures tells { IfOk result (λ u. tables.Tells u (node trees.Module [] (node_tree item.entry ⊳ ε))) }
         ensures memory { IfErr result (λ e. e ≡ OutOfMemory) }
     {
-        let mut table = Table::new(alloc);
-        table.count(item, Place::top())?;
-        let opened = item.open();
-        table.note_exported(opened.kind, opened.children)?;
-        Ok(Uses {
-            table,
-            exports_default: is_nameless(opened.kind),
-        })
+        let mut uses = Uses::nothing(alloc);
+        uses.note_item(item.open())?;
+        Ok(uses)
     }
 
     /// Whether a name is neither used nor written: inside the declaration of a function its own name doesn't count.

@@ -9,6 +9,29 @@ use std::alloc::{AllocError, Global};
 use swc_ast::Expr;
 use swc_utils::ExprCtx;
 
+/// Whether a rule may fit an expression of this kind.
+#[inline(always)]
+pub(crate) fn is_ruled(e: &Expr) -> bool {
+    match e {
+        Expr::Seq(_) | Expr::Assign(_) | Expr::Cond(_) => true,
+        Expr::This(_)
+        | Expr::Array(_)
+        | Expr::Object(_)
+        | Expr::Fn(_)
+        | Expr::Unary(_)
+        | Expr::Update(_)
+        | Expr::Bin(_)
+        | Expr::Member(_)
+        | Expr::Call(_)
+        | Expr::New(_)
+        | Expr::Ident(_)
+        | Expr::Lit(_)
+        | Expr::Tpl(_)
+        | Expr::Arrow(_)
+        | Expr::Invalid(_) => false,
+    }
+}
+
 /// What takes an expression's place, whose children are done. None: no rule fits, and it is as it was. Fails where memory
 /// is refused.
 #[tactic(auto)]

@@ -8,3 +8,4 @@ mod rules;
 mod statements;
 
 pub use remover::{Remover, dead_branch_remover};
+pub use rules::BranchRules;

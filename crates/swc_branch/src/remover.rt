@@ -33,9 +33,9 @@ pub fn dead_branch_remover(unresolved_mark: Mark) -> Remover
 }
 
 impl Remover {
-    /// The rules of a run.
-    fn rules(&self, alloc: Global) -> BranchRules
-        ensures { unresolved result.ctx ≡ mark_number self.now.unresolved_mark }
+    /// Returns the rules of a run.
+    pub fn rules(&self, alloc: Global) -> BranchRules
+        ensures { unresolved result.ctx ≡ mark_number (⟦<Remover as Pass>⟧.settings self.now) }
     {
         BranchRules {
             alloc,

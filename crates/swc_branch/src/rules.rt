@@ -11,7 +11,7 @@ ghost use Rattle.tree_walk.specs.Walks.{Became, Opened, Stepped};
 ghost use Rattle.pass_places.specs.Dropped.{has_void_default};
 ghost use Rattle.branch_rules.specs.Removes.{remove_pass};
 
-use crate::expressions::fold_expr;
+use crate::expressions::{fold_expr, is_ruled};
 use crate::places::is_cramped;
 use crate::statements::{finish_for, fold_stmt, is_loop, open_stmt};
 use branch_lists::{tidy_items, tidy_statements};
@@ -24,9 +24,9 @@ use tree_walk::{ListPlace, Place, Rules};
 
 /// The rules, for a module whose unresolved names are those of a context.
 #[derive(Drop)]
-pub(crate) struct BranchRules {
-    pub(crate) alloc: Global,
-    pub(crate) ctx: ExprCtx,
+pub struct BranchRules {
+    pub alloc: Global,
+    pub ctx: ExprCtx,
 }
 
 impl BranchRules {
@@ -57,6 +57,9 @@ impl Rules for BranchRules {
     }
 
     fn leave_expr(&self, place: Place, e: &mut Expr) -> Result<bool, AllocError> {
+        if !is_ruled(e) {
+            return Ok(false);
+        }
         if is_cramped(place, e) {
             return Ok(false);
         }

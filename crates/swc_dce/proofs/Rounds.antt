@@ -15,7 +15,7 @@ use Rattle.dce_items.specs.Remaining.{RemainsIn}
 use Rattle.dce_items.specs.Wrapped.{LayeredInside, around}
 use Rattle.dce_items.proofs.Laying.{staying_live}
 use Rattle.dce_items.proofs.Replacing.{module_within, module_replaced, wrapper_there}
-use Rattle.swc_dce.specs.Peeling.{PeelsModule, PeeledBy}
+use Rattle.swc_dce.specs.Peeling.{PeeledBy}
 use Rattle.swc_dce.specs.Shaken.{Told}
 
 -- no round

@@ -10,6 +10,7 @@ mod shaker;
 
 pub use config::Config;
 pub use peel::Peeled;
+pub use rules::ShakeRules;
 pub use shaker::{TreeShaker, dce};
 
 /// The laws of the tree shaker, which its contract states.

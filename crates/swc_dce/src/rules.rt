@@ -16,9 +16,9 @@ use tree_walk::{ListPlace, Place, Rules};
 
 /// The rules, for a module of which something is known.
 #[derive(Drop)]
-pub(crate) struct ShakeRules<'a> {
-    pub(crate) alloc: Global,
-    pub(crate) known: Known<'a>,
+pub struct ShakeRules<'a> {
+    pub alloc: Global,
+    pub known: Known<'a>,
 }
 
 impl<'a> ShakeRules<'a> {

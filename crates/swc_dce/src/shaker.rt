@@ -1,11 +1,12 @@
 //! The pass.
-ghost use Rattle.std.specs.Prelude.{◌≡◌, not, false, map, string_bytes, codes, IfOk};
+ghost use Rattle.std.specs.Prelude.{◌≡◌, false, codes, IfOk};
 ghost use Rattle.swc_ast.specs.Marks.{mark_number};
-ghost use Rattle.swc_ast.specs.Run.{has_text};
-ghost use Rattle.swc_ast.specs.Tree.{Text};
+ghost use Rattle.swc_ast.specs.Tree.{Tree};
 ghost use Rattle.swc_utils.specs.Globals.{unresolved};
+ghost use Rattle.dce_uses.specs.Tables.{Tells};
+ghost use Rattle.dce_code.specs.Knowledge.{shaker};
 ghost use Rattle.swc_dce.specs.Configured as configured;
-ghost use Rattle.swc_dce.specs.Shaken.{Told, shake_spec, shake_lawful};
+ghost use Rattle.swc_dce.specs.Shaken.{MadeFor, Told, shake_spec, shake_lawful};
 
 use crate::config::Config;
 use crate::rules::ShakeRules;
@@ -48,21 +49,18 @@ impl TreeShaker {
         }
     }
 
-    /// What is known in a run over a module or a script that uses its names so. Fails where memory is refused.
-    fn known<'a>(&'a self, alloc: Global, uses: &'a Uses) -> Result<Known<'a>, AllocError>
-        ensures uses { IfOk result (λ k. k.uses.now ≡ uses.now) }
-        ensures mark { IfOk result (λ k. unresolved k.ctx ≡ mark_number self.now.unresolved_mark) }
-        ensures retained { IfOk result (λ k. (t : Text) → has_text t k.retained ≡ has_text t (map string_bytes self.now.config.top_retain.items)) }
-        ensures top_level { IfOk result (λ k. k.top_level ≡ self.now.config.top_level) }
-        ensures imports { IfOk result (λ k. k.drops_imports ≡ not self.now.config.preserve_imports_with_side_effects) }
+    /// Returns the rules of a run over a module or a script that uses its names so. Fails where memory is refused.
+    pub fn rules<'a>(&'a self, alloc: Global, uses: &'a Uses) -> Result<ShakeRules<'a>, AllocError>
+        ensures made { IfOk result (λ r. (t : Tree) → Tells uses.now t → MadeFor (⟦<TreeShaker as Pass>⟧.settings self.now) (shaker r.known) t) }
     {
-        Ok(Known {
+        let known = Known {
             uses,
             retained: Retained::of(alloc, &self.config.top_retain)?,
             ctx: self.ctx(),
             top_level: self.config.top_level,
             drops_imports: !self.config.preserve_imports_with_side_effects,
-        })
+        };
+        Ok(ShakeRules { alloc, known })
     }
 }
 
@@ -108,8 +106,7 @@ impl Pass for TreeShaker {
     fn rewrite(&mut self, alloc: Global, mut module: Module) -> Result<Module, PassError> {
         self.changed = false;
         let uses = Uses::of_module(alloc, &module)?;
-        let known = self.known(alloc, &uses)?;
-        let changed = walk_module(&ShakeRules { alloc, known }, &mut module)?;
+        let changed = walk_module(&self.rules(alloc, &uses)?, &mut module)?;
         self.changed = changed;
         Ok(module)
     }
@@ -118,8 +115,7 @@ impl Pass for TreeShaker {
     fn rewrite_script(&mut self, alloc: Global, mut script: Script) -> Result<Script, PassError> {
         self.changed = false;
         let uses = Uses::of_script(alloc, &script)?;
-        let known = self.known(alloc, &uses)?;
-        let changed = walk_script(&ShakeRules { alloc, known }, &mut script)?;
+        let changed = walk_script(&self.rules(alloc, &uses)?, &mut script)?;
         self.changed = changed;
         Ok(script)
     }

@@ -1,5 +1,5 @@
 -- What the folds of the forms of expressions tell of the expression.
-use Rattle.std.proofs.Common.{◌≡◌, ℕ, Option, IfOk, IsNone, refl, sym, ap, ◌∙◌, subst}
+use Rattle.std.proofs.Common.{◌≡◌, ℕ, Option, IfOk, IsNone, sym, ap, ◌∙◌, subst}
 use Rattle.std.specs.declared.result.Result.{Result}
 use Rattle.swc_ast.specs.Expressions.{array_tree, object_tree, bin_tree, cond_tree}
 use Rattle.swc_ast.specs.Views.{expr_tree, prop_or_spread_tree}

@@ -1,5 +1,5 @@
 -- Nodes that are no operators and no conditions.
-use Rattle.std.proofs.Common.{◌≡◌, Bool, true, false, if◌then◌else◌, List, [], ◌∷◌, refl}
+use Rattle.std.proofs.Common.{Bool, true, false, if◌then◌else◌, List, [], ◌∷◌, refl}
 use Rattle.swc_ast.specs.Tree as tree
 use Rattle.swc_ast.specs.Tree.{Name, Tree, node, Forest, ◌⊳◌}
 use Rattle.swc_ast.specs.Expressions.{is_eval, call_node}

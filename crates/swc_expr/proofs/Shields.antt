@@ -2,13 +2,11 @@
 use Rattle.std.proofs.Common.{◌≡◌, ℕ, Bool, true, false, ◌&&◌, not, if◌then◌else◌, List, [], ◌∷◌, refl, sym, ap, ◌∙◌, subst, pos, zero, Option, Some}
 use Rattle.std.proofs.lemmas.Bool.{false≢true, true≢false}
 use Rattle.swc_ast.specs.Tree as tree
-use Rattle.swc_ast.specs.Tree.{Name, Seq, Label, Tree, node, Forest, ε, ◌⊳◌, label_of}
+use Rattle.swc_ast.specs.Tree.{Seq, Tree, node, Forest, ε, ◌⊳◌, label_of}
 use Rattle.swc_ast.specs.Redex.{is_zero}
 use Rattle.swc_ast.specs.Views.{expr_tree}
-use Rattle.swc_ast.specs.Weight.{weight}
 use Rattle.swc_ast.specs.declared.expressions.Expr.{Expr}
 use Rattle.swc_ast.specs.declared.Span.{Span}
-use Rattle.static_proofs.specs.Free.{kind_at}
 use Rattle.tree_walk.specs.Parts.{stands_alone}
 use Rattle.tree_walk.specs.Walks.{Fits, Stepped}
 use Rattle.tree_walk.specs.declared.rules.Place.{Place}
@@ -20,7 +18,7 @@ use Rattle.expr_rules.specs.ExprSteps.{ExprStep, front, text_length, text_charac
 use Rattle.pass_rules.specs.Leaves.{guarded}
 use Rattle.expr_proofs.specs.Laws.{is_guarded}
 use Rattle.expr_proofs.proofs.Roomy.{guarded_lighter}
-use Rattle.pass_places.specs.Places.{is_shielding, is_shield, nowhere, shielded}
+use Rattle.pass_places.specs.Places.{is_shield, nowhere, shielded}
 use Rattle.expr_rules.specs.Replaced.{Replaced}
 use Rattle.pass_proofs.proofs.ExprTrees.{is_an_expression}
 use Rattle.pass_places.specs.Dropped.{MayDrop}

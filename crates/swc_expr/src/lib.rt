@@ -4,4 +4,5 @@
 mod rules;
 mod simplify;
 
+pub use rules::ExprRules;
 pub use simplify::{Config, SimplifyExpr, expr_simplifier};

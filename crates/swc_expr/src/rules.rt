@@ -1,5 +1,5 @@
 //! The rules of the pass at each node.
-ghost use Rattle.std.specs.Prelude.{◌≡◌, not, IfOk, IsNone};
+ghost use Rattle.std.specs.Prelude.{◌≡◌, not, IfOk, IsFalse, IsNone};
 ghost use Rattle.swc_ast.specs.Expressions.{param_tree};
 ghost use Rattle.swc_ast.specs.Redex as redex;
 ghost use Rattle.swc_ast.specs.Views.{expr_tree};
@@ -20,9 +20,37 @@ use tree_walk::{ListPlace, Place, Rules};
 
 /// The rules, for a module whose unresolved names are those of a context.
 #[derive(Drop)]
-pub(crate) struct ExprRules {
-    pub(crate) alloc: Global,
-    pub(crate) ctx: ExprCtx,
+pub struct ExprRules {
+    pub alloc: Global,
+    pub ctx: ExprCtx,
+}
+
+/// Whether a rule may fit an expression of this kind.
+#[inline(always)]
+#[tactic(auto, using(swc_ast::proofs::Equations::forms))]
+fn is_ruled(e: &Expr) -> bool
+    ensures { IsFalse result → Rests (expr_tree e.now) }
+{
+    match e {
+        Expr::Unary(_) => true,
+        Expr::Bin(_) => true,
+        Expr::Cond(_) => true,
+        Expr::Seq(_) => true,
+        Expr::Array(_) => true,
+        Expr::Object(_) => true,
+        Expr::Member(_) => true,
+        Expr::Call(_) => false,
+        Expr::This(_)
+        | Expr::Fn(_)
+        | Expr::Update(_)
+        | Expr::Assign(_)
+        | Expr::New(_)
+        | Expr::Ident(_)
+        | Expr::Lit(_)
+        | Expr::Tpl(_)
+        | Expr::Arrow(_)
+        | Expr::Invalid(_) => false,
+    }
 }
 
 /// Whether an expression is a callee.
@@ -86,6 +114,9 @@ impl Rules for ExprRules {
     }
 
     fn leave_expr(&self, place: Place, e: &mut Expr) -> Result<bool, AllocError> {
+        if !is_ruled(e) {
+            return Ok(false);
+        }
         if is_shield(place, e) {
             return Ok(false);
         }

@@ -38,9 +38,9 @@ pub fn expr_simplifier(unresolved_mark: Mark, config: Config) -> SimplifyExpr
 }
 
 impl SimplifyExpr {
-    /// The rules of a run.
-    fn rules(&self, alloc: Global) -> ExprRules
-        ensures { unresolved result.ctx ≡ mark_number self.now.unresolved_mark }
+    /// Returns the rules of a run.
+    pub fn rules(&self, alloc: Global) -> ExprRules
+        ensures { unresolved result.ctx ≡ mark_number (⟦<SimplifyExpr as Pass>⟧.settings self.now) }
     {
         ExprRules {
             alloc,

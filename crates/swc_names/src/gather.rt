@@ -144,14 +144,14 @@ pub(crate) fn gather<'a, T: StmtLike>(
     let mut names = Vec::new(alloc);
     let mut left = items;
     while let [item, rest @ ..] = left {
-        add_names(&mut names, open(item), choice)?;
+        add_names(&mut names, open_item(item), choice)?;
         left = rest;
     }
     Ok(names)
 }
 
 /// What an item of a list is, and its children.
-fn open<'a, T: StmtLike>(item: &'a T) -> Opened<'a>
+pub fn open_item<'a, T: StmtLike>(item: &'a T) -> Opened<'a>
     ensures { Opens (item_tree (T.item item.now)) result }
 {
     if let Some(s) = item.as_stmt() {

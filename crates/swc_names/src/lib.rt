@@ -6,5 +6,6 @@ mod ids;
 mod keys;
 mod numbers;
 
+pub use gather::open_item;
 pub use ids::{collect_decls, extract_var_ids, find_pat_ids};
 pub use numbers::Names;

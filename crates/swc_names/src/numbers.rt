@@ -53,6 +53,7 @@ impl Names {
 
     /// The number of an identifier's name. A name that has none gets the next, behind those of the others. Fails where memory is
     /// refused.
+    #[inline(always)]
     pub fn add(&mut self, name: &Ident) -> Result<usize, AllocError>
         ensures names { OnOk result (self.new ≡ with_name self.old (ident_name name.now)) }
         ensures number { IfOk result (λ n. position (same_name (ident_name name.now)) self.new ≡ Some n) }

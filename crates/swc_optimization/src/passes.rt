@@ -10,7 +10,7 @@ ghost use Rattle.swc_optimization.specs.Simplifier.{round_spec, rounds_spec, Sim
 ghost use Rattle.swc_optimization.specs.RoundLaws.{rounds_lawful};
 
 use crate::config::Config;
-use crate::rounds::{Passes, Peel, run_rounds};
+use crate::rounds::{Passes, Program};
 use std::alloc::Global;
 use std::marker::Model;
 use swc_ast::{Mark, Module, PassError, Script};
@@ -130,7 +130,7 @@ impl Simplifier {
     }
 
     /// Runs rounds over a module or a script, and keeps how many they were and what they told.
-    fn run_passes<W: Peel>(&mut self, alloc: Global, whole: W) -> Result<W, PassError>
+    fn run_passes<W: Program>(&mut self, alloc: Global, whole: W) -> Result<W, PassError>
         ensures told { self.new.told ≡ self.old.told }
         ensures most { self.new.most ≡ self.old.most }
         ensures changed { IfOk result (λ r. IsTrue self.new.changed ↔ ((if self.new.reached then 1 else 0) < self.new.rounds)) }
@@ -139,7 +139,7 @@ impl Simplifier {
         ensures memory { IfErr result (λ e. e ≡ OutOfMemory) }
     {
         self.reset();
-        let ran = run_rounds(&mut self.passes, alloc, self.max_rounds, whole)?;
+        let ran = whole.in_rounds(&mut self.passes, alloc, self.max_rounds)?;
         self.rounds = ran.rounds;
         self.reached = ran.reached;
         self.changed = is_some_changing(ran.rounds, ran.reached);
@@ -147,7 +147,7 @@ impl Simplifier {
     }
 
     /// Runs rounds over a module or a script and returns the result. Fails if memory runs out; the simplifier can run again after that.
-    fn run_whole<W: Peel>(&mut self, alloc: Global, whole: W) -> Result<W, PassError>
+    fn run_whole<W: Program>(&mut self, alloc: Global, whole: W) -> Result<W, PassError>
         ensures told { self.new.told ≡ self.old.told }
         ensures most { self.new.most ≡ self.old.most }
         ensures simplified { IfOk result (λ r. Simplifies self.old.told self.old.most self.new (W.tree whole) (W.tree r)) }

@@ -1,15 +1,22 @@
 //! Rounds of the three passes. Rounds in which nothing but functions and variables of one list goes are done at once.
 ghost use Rattle.std.specs.Prelude.{◌≡◌, ◌<◌, ◌≤◌, ◌||◌, false, Some, IfOk, IfErr};
+ghost use Rattle.swc_ast.specs.Marks.{mark_number};
+ghost use Rattle.swc_ast.specs.Modules.{script_tree};
+ghost use Rattle.swc_ast.specs.Tree.{Tree};
 ghost use Rattle.swc_ast.specs.declared.errors.PassError.TheVariants.{OutOfMemory};
 ghost use Rattle.swc_pass.specs.Pass.{TellsChange};
 ghost use Rattle.swc_pass.specs.Repeat.{Rounds, Rounded};
+ghost use Rattle.swc_expr.specs.Simplified.{Simplified};
+ghost use Rattle.swc_branch.specs.Removed.{Removed};
 ghost use Rattle.swc_dce.specs.Configured.{told};
 ghost use Rattle.swc_dce.specs.Shaken.{Shaken};
+ghost use Rattle.round_units.specs.Trees.{units_tree};
 ghost use Rattle.round_proofs.specs.Rested.{AtRest, Rested};
 ghost use Rattle.swc_optimization.specs.Simplifier.{round_spec};
 ghost use Rattle.swc_optimization.specs.Turns.{Cleared, Turned};
 
 use crate::config::Config;
+use round_units::Units;
 use std::alloc::Global;
 use std::marker::Model;
 use swc_ast::{Mark, Module, PassError, Script};
@@ -59,33 +66,108 @@ struct Turn<W> {
     quiet: bool,
 }
 
-/// Modules and scripts, of which modules can have rounds at once.
-pub(crate) trait Peel: Whole {
+/// What rounds go over: a module as its items, or a script. Of these, modules can have rounds at once.
+pub(crate) trait InRounds: Drop {
+    ghost tree: { Self → Tree };
+
+    /// What the expression simplifier makes of it.
+    fn simplified(self, pass: &mut SimplifyExpr, alloc: Global) -> Result<Made<Self>, PassError>
+        ensures settings { ⟦<SimplifyExpr as Pass>⟧.settings pass.new ≡ ⟦<SimplifyExpr as Pass>⟧.settings pass.old }
+        ensures answer { IfOk result (λ r. Simplified (mark_number (⟦<SimplifyExpr as Pass>⟧.settings pass.old)) (tree self) (tree r.whole)) }
+        ensures changed { IfOk result (λ r. TellsChange r.changed (tree self) (tree r.whole)) }
+        ensures memory { IfErr result (λ e. e ≡ OutOfMemory) };
+
+    /// What the remover of dead branches makes of it.
+    fn removed(self, pass: &mut Remover, alloc: Global) -> Result<Made<Self>, PassError>
+        ensures settings { ⟦<Remover as Pass>⟧.settings pass.new ≡ ⟦<Remover as Pass>⟧.settings pass.old }
+        ensures answer { IfOk result (λ r. Removed (mark_number (⟦<Remover as Pass>⟧.settings pass.old)) (tree self) (tree r.whole)) }
+        ensures changed { IfOk result (λ r. TellsChange r.changed (tree self) (tree r.whole)) }
+        ensures memory { IfErr result (λ e. e ≡ OutOfMemory) };
+
+    /// What the tree shaker makes of it.
+    fn shaken(self, pass: &mut TreeShaker, alloc: Global) -> Result<Made<Self>, PassError>
+        ensures settings { ⟦<TreeShaker as Pass>⟧.settings pass.new ≡ ⟦<TreeShaker as Pass>⟧.settings pass.old }
+        ensures answer { IfOk result (λ r. Shaken (⟦<TreeShaker as Pass>⟧.settings pass.old) (tree self) (tree r.whole)) }
+        ensures changed { IfOk result (λ r. TellsChange r.changed (tree self) (tree r.whole)) }
+        ensures memory { IfErr result (λ e. e ≡ OutOfMemory) };
+
     /// What rounds leave in which nothing but functions and variables of one list of a module goes: so many at most, and maybe none.
     fn peeled(self, names: &TreeShaker, alloc: Global, most: usize) -> Result<Left<Self>, PassError>
-        requires { AtRest (⟦<TreeShaker as Pass>⟧.settings names.now) (Self.tree self) }
+        requires { AtRest (⟦<TreeShaker as Pass>⟧.settings names.now) (tree self) }
         ensures within { IfOk result (λ r. r.rounds ≤ most) }
-        ensures rounds { IfOk result (λ r. Rounds (Rested (⟦<TreeShaker as Pass>⟧.settings names.now)) (Self.tree self) r.rounds false (Self.tree r.whole)) }
-        ensures rests { IfOk result (λ r. AtRest (⟦<TreeShaker as Pass>⟧.settings names.now) (Self.tree r.whole)) }
+        ensures rounds { IfOk result (λ r. Rounds (Rested (⟦<TreeShaker as Pass>⟧.settings names.now)) (tree self) r.rounds false (tree r.whole)) }
+        ensures rests { IfOk result (λ r. AtRest (⟦<TreeShaker as Pass>⟧.settings names.now) (tree r.whole)) }
         ensures memory { IfErr result (λ e. e ≡ OutOfMemory) };
 }
 
-impl Peel for Module {
+impl InRounds for Units {
+    ghost tree = { units_tree };
+
+    fn simplified(
+        mut self,
+        pass: &mut SimplifyExpr,
+        alloc: Global,
+    ) -> Result<Made<Units>, PassError> {
+        let changed = self.simplify(&pass.rules(alloc))?;
+        Ok(Made {
+            whole: self,
+            changed,
+        })
+    }
+
+    fn removed(mut self, pass: &mut Remover, alloc: Global) -> Result<Made<Units>, PassError> {
+        let changed = self.remove(&pass.rules(alloc))?;
+        Ok(Made {
+            whole: self,
+            changed,
+        })
+    }
+
+    fn shaken(mut self, pass: &mut TreeShaker, alloc: Global) -> Result<Made<Units>, PassError> {
+        let changed = self.shake(alloc, pass)?;
+        Ok(Made {
+            whole: self,
+            changed,
+        })
+    }
+
     fn peeled(
         self,
         names: &TreeShaker,
         alloc: Global,
         most: usize,
-    ) -> Result<Left<Module>, PassError> {
-        let peeled = names.peel(alloc, self, most)?;
+    ) -> Result<Left<Units>, PassError> {
+        let module = self.into_module(alloc)?;
+        let peeled = names.peel(alloc, module, most)?;
+        let whole = Units::of(alloc, peeled.module)?;
         Ok(Left {
-            whole: peeled.module,
+            whole,
             rounds: peeled.rounds,
         })
     }
 }
 
-impl Peel for Script {
+impl InRounds for Script {
+    ghost tree = { script_tree };
+
+    fn simplified(self, pass: &mut SimplifyExpr, alloc: Global) -> Result<Made<Script>, PassError> {
+        let whole = self.rewritten(pass, alloc)?;
+        let changed = pass.changed();
+        Ok(Made { whole, changed })
+    }
+
+    fn removed(self, pass: &mut Remover, alloc: Global) -> Result<Made<Script>, PassError> {
+        let whole = self.rewritten(pass, alloc)?;
+        let changed = pass.changed();
+        Ok(Made { whole, changed })
+    }
+
+    fn shaken(self, pass: &mut TreeShaker, alloc: Global) -> Result<Made<Script>, PassError> {
+        let whole = self.rewritten(pass, alloc)?;
+        let changed = pass.changed();
+        Ok(Made { whole, changed })
+    }
+
     fn peeled(
         self,
         _names: &TreeShaker,
@@ -96,6 +178,49 @@ impl Peel for Script {
             whole: self,
             rounds: 0,
         })
+    }
+}
+
+/// A module or a script.
+pub(crate) trait Program: Whole {
+    /// Runs rounds of the passes over it, so many at most.
+    fn in_rounds(
+        self,
+        passes: &mut Passes,
+        alloc: Global,
+        max_rounds: usize,
+    ) -> Result<Ran<Self>, PassError>
+        ensures told { passes.new ≡ passes.old }
+        ensures rounds { IfOk result (λ r. Rounded (round_spec passes.old) max_rounds (Self.tree self) r.rounds r.reached (Self.tree r.whole)) }
+        ensures memory { IfErr result (λ e. e ≡ OutOfMemory) };
+}
+
+impl Program for Module {
+    fn in_rounds(
+        self,
+        passes: &mut Passes,
+        alloc: Global,
+        max_rounds: usize,
+    ) -> Result<Ran<Module>, PassError> {
+        let units = Units::of(alloc, self)?;
+        let ran = run_rounds(passes, alloc, max_rounds, units)?;
+        let whole = ran.whole.into_module(alloc)?;
+        Ok(Ran {
+            whole,
+            rounds: ran.rounds,
+            reached: ran.reached,
+        })
+    }
+}
+
+impl Program for Script {
+    fn in_rounds(
+        self,
+        passes: &mut Passes,
+        alloc: Global,
+        max_rounds: usize,
+    ) -> Result<Ran<Script>, PassError> {
+        run_rounds(passes, alloc, max_rounds, self)
     }
 }
 
@@ -125,40 +250,34 @@ impl Passes {
     }
 
     /// What the expression simplifier and then the remover make of it.
-    fn clear<W: Whole>(&mut self, alloc: Global, whole: W) -> Result<Made<W>, PassError>
+    fn clear<W: InRounds>(&mut self, alloc: Global, whole: W) -> Result<Made<W>, PassError>
         ensures told { self.new ≡ self.old }
         ensures answer { IfOk result (λ r. Cleared self.old (W.tree whole) (W.tree r.whole)) }
         ensures changed { IfOk result (λ r. TellsChange r.changed (W.tree whole) (W.tree r.whole)) }
         ensures memory { IfErr result (λ e. e ≡ OutOfMemory) }
     {
-        let simplified = whole.rewritten(&mut self.expressions, alloc)?;
-        let removed = simplified.rewritten(&mut self.branches, alloc)?;
-        let first = self.expressions.changed();
-        let second = self.branches.changed();
-        let changed = either(first, second);
+        let simplified = whole.simplified(&mut self.expressions, alloc)?;
+        let first = simplified.changed;
+        let removed = simplified.whole.removed(&mut self.branches, alloc)?;
+        let changed = either(first, removed.changed);
         Ok(Made {
-            whole: removed,
+            whole: removed.whole,
             changed,
         })
     }
 
     /// What the tree shaker makes of it.
-    fn shake<W: Whole>(&mut self, alloc: Global, whole: W) -> Result<Made<W>, PassError>
+    fn shake<W: InRounds>(&mut self, alloc: Global, whole: W) -> Result<Made<W>, PassError>
         ensures told { self.new ≡ self.old }
         ensures answer { IfOk result (λ r. Shaken self.old (W.tree whole) (W.tree r.whole)) }
         ensures changed { IfOk result (λ r. TellsChange r.changed (W.tree whole) (W.tree r.whole)) }
         ensures memory { IfErr result (λ e. e ≡ OutOfMemory) }
     {
-        let shaken = whole.rewritten(&mut self.names, alloc)?;
-        let changed = self.names.changed();
-        Ok(Made {
-            whole: shaken,
-            changed,
-        })
+        whole.shaken(&mut self.names, alloc)
     }
 
     /// Rounds of what the other passes leave as it is: those that can be done at once, and then one of the tree shaker.
-    fn shake_at_rest<W: Peel>(
+    fn shake_at_rest<W: InRounds>(
         &mut self,
         alloc: Global,
         most: usize,
@@ -187,7 +306,7 @@ impl Passes {
     }
 
     /// A round, or several: behind a round in which all but the tree shaker changed nothing, those that can be done at once.
-    fn turn<W: Peel>(
+    fn turn<W: InRounds>(
         &mut self,
         alloc: Global,
         most: usize,
@@ -219,7 +338,7 @@ impl Passes {
 }
 
 /// Rounds of the passes, until one of them changes nothing or there are so many.
-pub(crate) fn run_rounds<W: Peel>(
+pub(crate) fn run_rounds<W: InRounds>(
     passes: &mut Passes,
     alloc: Global,
     max_rounds: usize,

@@ -1,9 +1,8 @@
 -- The tree of a node, and the trees of the children that are still to be read.
-use Rattle.std.specs.Prelude.{Bool, true, false, ℕ, ◌≡◌, Option, Some, None, map, drop, List, [], ◌∷◌}
+use Rattle.std.specs.Prelude.{false, ℕ, ◌≡◌, Option, Some, None, map, drop, List, [], ◌∷◌}
 use Rattle.swc_ast.specs.Labels.{is_member_or_name}
-use Rattle.swc_ast.specs.Tree.{Label, Read, Dot, Index, Tree, node, Forest, ε, ◌⊳◌, label_of, children_of}
+use Rattle.swc_ast.specs.Tree.{Tree, Forest, ε, ◌⊳◌, label_of, children_of}
 use Rattle.swc_ast.specs.Parts.{absent, tree_or_absent, list_trees, ident_tree}
-use Rattle.swc_ast.specs.declared.Span.{Span}
 use Rattle.swc_ast.specs.Expressions.{item_trees, key_tree, param_tree, params_tree, body_tree, member_tree}
 use Rattle.swc_ast.specs.Statements.{CaseTrees, case_children, block_tree, declarator_tree, var_tree, handler_tree, option_block_tree, option_init_tree}
 use Rattle.swc_ast.specs.Views.{expr_tree, stmt_tree, decl_tree, prop_or_spread_tree, case_trees, arrow_body_tree}

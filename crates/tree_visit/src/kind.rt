@@ -86,6 +86,7 @@ pub enum Kind<'a> {
 
 impl<'a> Kind<'a> {
     /// Whether statements stand among the children, those of functions aside.
+    #[inline(always)]
     pub fn holds_statements(self) -> bool
         ensures { result ≡ is_holder (kind_label self.entry) }
     {

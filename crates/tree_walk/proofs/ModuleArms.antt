@@ -3,7 +3,7 @@ use Rattle.std.proofs.Common.{◌≡◌, Bool, true, false, ◌||◌, refl, sym,
 use Rattle.std.specs.declared.alloc.Global.{Global}
 use Rattle.std.specs.declared.boxed.Box.{Box}
 use Rattle.swc_ast.specs.Tree as tree
-use Rattle.swc_ast.specs.Tree.{Label, Tree, node, Forest, ε, ◌⊳◌}
+use Rattle.swc_ast.specs.Tree.{Tree, node, ε, ◌⊳◌}
 use Rattle.swc_ast.specs.Parts.{list_trees, option_ident_name, option_ident_spans}
 use Rattle.swc_ast.specs.Expressions.{FunctionTrees}
 use Rattle.swc_ast.specs.Modules.{item_tree, module_decl_tree, import_specifier_tree, export_specifier_tree, export_default_fn_tree}

@@ -3,7 +3,7 @@ use Rattle.std.proofs.Common.{◌≡◌, Bool, true, false, ◌||◌, ◌&&◌, 
 use Rattle.std.proofs.lemmas.Bool.{false≢true}
 use Rattle.std.specs.Prelude.{if◌then◌else◌}
 use Rattle.swc_ast.specs.Tree as tree
-use Rattle.swc_ast.specs.Tree.{Name, Label, Tree, node, Forest, ε, ◌⊳◌}
+use Rattle.swc_ast.specs.Tree.{Name, Tree, node, Forest, ε, ◌⊳◌}
 use Rattle.swc_ast.specs.Parts.{lit_tree}
 use Rattle.swc_ast.specs.Expressions.{is_eval, call_node, unary_node, member_tree, member_node, member_update, member_assign, update_node, assign_node}
 use Rattle.swc_ast.specs.Views.{expr_tree}

@@ -1,7 +1,7 @@
 -- Lists of statements: each is the children of one node.
 use Rattle.std.specs.Prelude.{Bool, true, false, ◌≡◌, List}
 use Rattle.swc_ast.specs.Labels.{is_block}
-use Rattle.swc_ast.specs.Tree.{Label, Block, Body, CaseBody, Script, Module, Tree, node, Forest}
+use Rattle.swc_ast.specs.Tree.{Label, Block, Body, CaseBody, Script, Module, node, Forest}
 use Rattle.swc_ast.specs.declared.Span.{Span}
 use Rattle.swc_ast.specs.Parts.{list_trees}
 use Rattle.swc_ast.specs.Modules.{item_tree}

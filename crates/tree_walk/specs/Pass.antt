@@ -1,7 +1,7 @@
 -- What a pass may do: which steps it takes at a node before its children are walked, at one whose children are walked, and
 -- at the list of statements that a node holds; what is known of nodes and lists that it leaves as they are; and of nodes that
 -- it doesn't enter.
-use Rattle.std.specs.Prelude.{Bool, true, false, not, ◌&&◌, List, []}
+use Rattle.std.specs.Prelude.{Bool, true, false, not, ◌&&◌, []}
 use Rattle.swc_ast.specs.Tree.{Label, SpreadRecord, KeyValue, Shorthand, Method, PlainKey, ComputedKey, Params, Body, Param, Block, Absent, CaseBody, VarDecl, Declarator, FnDecl, Module, Script, For, Import, ImportNamed, ImportDefault, ImportStar, ExportDecl, ExportSpecifier, Tree, node, Forest, ε, ◌⊳◌}
 use Rattle.swc_ast.specs.Weight.{is_list}
 

@@ -30,6 +30,7 @@ pub fn walk_expr<R: Rules>(rules: &R, place: Place, e: &mut Expr) -> Result<bool
 }
 
 #[cycle(walk)]
+#[inline(always)]
 pub fn walk_parts<R: Rules>(rules: &R, place: Place, e: &mut Expr) -> Result<bool, AllocError>
     ensures { IfOk result (λ c. Inside (R.pass rules.now) c (expr_tree e.old) (expr_tree e.new)) }
 {

@@ -45,8 +45,9 @@ fn walk_module_items<R: Rules>(rules: &R, items: &mut Vec<ModuleItem>) -> Result
     Ok(changed)
 }
 
-/// Walks an item, if it is entered: its parts, and then the item, if it is no statement.
-fn walk_module_item<R: Rules>(rules: &R, item: &mut ModuleItem) -> Result<bool, AllocError>
+/// Walks an item of a module, if it is entered: its parts, and then the item, if it is no statement. Returns whether a rule
+/// changed something. It fails where a rule does.
+pub fn walk_module_item<R: Rules>(rules: &R, item: &mut ModuleItem) -> Result<bool, AllocError>
     ensures { IfOk result (λ c. Made (R.pass rules.now) (item_tree item.old) (item_tree item.new) c) }
 {
     if !rules.enters_item(item) {

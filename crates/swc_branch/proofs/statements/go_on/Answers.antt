@@ -1,5 +1,4 @@
 use Rattle.std.proofs.Common.{subst, sym}
-use Rattle.swc_ast.specs.Views.{stmt_tree}
 use Rattle.swc_utils.specs.Globals.{unresolved}
 use Rattle.branch_rules.specs.Removes.{Removes}
 use Rattle.swc_branch.proofs.Becoming.{followed_at, unturned_at}

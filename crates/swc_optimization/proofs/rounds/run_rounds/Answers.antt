@@ -12,9 +12,9 @@ pub returns-then-ran-clause-rounds : goal.returns-then-ran-clause-rounds
 returns-then-ran-clause-rounds g c =
     let i = c.loop-done.invariant in
     let ran = c.in_ok-turn.turn.ran in
-    let turned = turned_on c.args.passes.now c.args.max_rounds c.loop-done.done (c.args.max_rounds - c.loop-done.done) ran.rounds ran.reached (g.W.Whole.tree c.args.whole) (g.W.Whole.tree c.loop-done.whole) (g.W.Whole.tree ran.whole) (omega (arith, c.loop-done-test.true)) i.3 (subst (λ s. Turned s (c.args.max_rounds - c.loop-done.done) (g.W.Whole.tree c.loop-done.whole) ran.rounds ran.reached (g.W.Whole.tree ran.whole)) i.0 c.in_ok-turn.ensures.turned) in
+    let turned = turned_on c.args.passes.now c.args.max_rounds c.loop-done.done (c.args.max_rounds - c.loop-done.done) ran.rounds ran.reached (g.W.InRounds.tree c.args.whole) (g.W.InRounds.tree c.loop-done.whole) (g.W.InRounds.tree ran.whole) (omega (arith, c.loop-done-test.true)) i.3 (subst (λ s. Turned s (c.args.max_rounds - c.loop-done.done) (g.W.InRounds.tree c.loop-done.whole) ran.rounds ran.reached (g.W.InRounds.tree ran.whole)) i.0 c.in_ok-turn.ensures.turned) in
     record {
-      rounds = subst (λ b. Rounds (Round c.args.passes.now) (g.W.Whole.tree c.args.whole) (c.loop-done.done + ran.rounds) b (g.W.Whole.tree ran.whole)) c.if-ran.true turned.1;
+      rounds = subst (λ b. Rounds (Round c.args.passes.now) (g.W.InRounds.tree c.args.whole) (c.loop-done.done + ran.rounds) b (g.W.InRounds.tree ran.whole)) c.if-ran.true turned.1;
       within = turned.0;
       fewer = λ k. refl;
     }
@@ -23,9 +23,9 @@ pub loop-done-preserved : goal.loop-done-preserved
 loop-done-preserved g c =
     let i = c.loop-done.invariant in
     let ran = c.in_ok-turn.turn.ran in
-    let turned = turned_on c.args.passes.now c.args.max_rounds c.loop-done.done (c.args.max_rounds - c.loop-done.done) ran.rounds ran.reached (g.W.Whole.tree c.args.whole) (g.W.Whole.tree c.loop-done.whole) (g.W.Whole.tree ran.whole) (omega (arith, c.loop-done-test.true)) i.3 (subst (λ s. Turned s (c.args.max_rounds - c.loop-done.done) (g.W.Whole.tree c.loop-done.whole) ran.rounds ran.reached (g.W.Whole.tree ran.whole)) i.0 c.in_ok-turn.ensures.turned) in (
+    let turned = turned_on c.args.passes.now c.args.max_rounds c.loop-done.done (c.args.max_rounds - c.loop-done.done) ran.rounds ran.reached (g.W.InRounds.tree c.args.whole) (g.W.InRounds.tree c.loop-done.whole) (g.W.InRounds.tree ran.whole) (omega (arith, c.loop-done-test.true)) i.3 (subst (λ s. Turned s (c.args.max_rounds - c.loop-done.done) (g.W.InRounds.tree c.loop-done.whole) ran.rounds ran.reached (g.W.InRounds.tree ran.whole)) i.0 c.in_ok-turn.ensures.turned) in (
       c.in_ok-turn.ensures.told ∙ i.0,
       turned.0,
       refl,
-      subst (λ b. Rounds (Round c.args.passes.now) (g.W.Whole.tree c.args.whole) (c.loop-done.done + ran.rounds) b (g.W.Whole.tree ran.whole)) c.if-ran.false turned.1,
+      subst (λ b. Rounds (Round c.args.passes.now) (g.W.InRounds.tree c.args.whole) (c.loop-done.done + ran.rounds) b (g.W.InRounds.tree ran.whole)) c.if-ran.false turned.1,
     )

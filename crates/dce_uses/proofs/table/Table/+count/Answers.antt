@@ -1,12 +1,14 @@
 use Rattle.std.proofs.Common.{ap, ◌∙◌, arith}
+use Rattle.std.proofs.lemmas.Result.{on_ok_weaker, IfOk-weaker}
 use Rattle.tree_visit.specs.Kinds.{kind_label}
 use Rattle.tree_visit.specs.Nodes.{node_tree, children_forest, next_forest}
 use Rattle.swc_names.specs.Ids.{optional}
-use Rattle.dce_uses.specs.Noted.{noted, noted_among}
+use Rattle.dce_uses.specs.Noted.{noted, noted_among, opened_tree}
+use Rattle.dce_uses.specs.Sights.{Sees}
 use Rattle.dce_uses.proofs.Adding.{begins, goes_on, ends}
-use Rattle.dce_uses.proofs.Counting.{counted_so, among_split, among_none, child_falls, children_fall}
+use Rattle.dce_uses.proofs.Counting.{counted_so, counted_as, among_split, among_none, child_falls, children_fall}
 use Rattle.dce_uses.proofs.Searches.{rest_within}
-use Rattle.dce_uses.proofs.Seeing.{seen_at, sees_first, sees_more, sees_all}
+use Rattle.dce_uses.proofs.Seeing.{seen_at, seen_as, sees_first, sees_more, sees_all}
 use Rattle.dce_uses.proofs.table.Table.+count.Goals as goal
 
 pub count_all-loop-child-init : goal.count_all-loop-child-init
@@ -39,15 +41,25 @@ count_all-returns-clause-seen t c = sees_all c.loop-child.seen (children_forest 
 pub count_all-count-requires : goal.count_all-count-requires
 count_all-count-requires t c = (let h = child_falls (node_tree c.in-Some.child) (children_forest c.in-Some.rest) (children_forest c.loop-child.left) (children_forest c.args.children) (c.next.ensures ∙ ap next_forest c.in-Some.is) c.loop-child.invariant.2 in omega (arith, h, c.decreases), tt)
 
-pub count-count_all-requires : goal.count-count_all-requires
-count-count_all-requires t c = (let h = children_fall (node_tree c.args.n) (children_forest c.open-opened.result.children) c.open-opened.ensures.1 in omega (arith, h, c.decreases), tt)
+pub count-count_opened-requires : goal.count-count_opened-requires
+count-count_opened-requires t c = (let h = children_fall (node_tree c.args.n) (children_forest c.open.result.children) c.open.ensures.1 in omega (arith, h, c.decreases), tt)
 
 pub count-returns-clause-notes : goal.count-returns-clause-notes
 count-returns-clause-notes t c =
-    counted_so c.args.self.now c.note.new.self c.count_all.new.self c.note_unnamed.new.self c.restore.new.self c.args.place c.below.result (node_tree c.args.n) (kind_label c.open-opened.result.kind) (children_forest c.open-opened.result.children) (optional c.function_name-function.result) c.tally_before-before.result
-    c.open-opened.ensures.0 c.open-opened.ensures.1 c.function_name-function.ensures c.below.ensures c.tally_before-before.ensures c.in_ok-note.ensures c.in_ok-inside.ensures.notes c.in_ok-note_unnamed.ensures c.in_ok-restore.ensures
+    on_ok_weaker c.count_opened.result
+    (counted_as c.args.self.now c.count_opened.new.self c.args.place (node_tree c.args.n) (kind_label c.open.result.kind) (children_forest c.open.result.children) c.open.ensures.0 c.open.ensures.1)
+    c.count_opened.ensures.notes
 
 pub count-returns-clause-seen : goal.count-returns-clause-seen
 count-returns-clause-seen t c =
-    seen_at (node_tree c.args.n) (kind_label c.open-opened.result.kind) (children_forest c.open-opened.result.children) c.in_ok-inside.inside c.with.result
-    c.open-opened.ensures.0 c.open-opened.ensures.1 c.in_ok-inside.ensures.seen c.with.ensures
+    IfOk-weaker c.count_opened.result (λ s. Sees s (opened_tree c.open.result)) (λ s. Sees s (node_tree c.args.n))
+    (λ s. seen_as (node_tree c.args.n) (kind_label c.open.result.kind) (children_forest c.open.result.children) s c.open.ensures.0 c.open.ensures.1)
+    c.count_opened.ensures.seen
+
+pub count_opened-returns-clause-notes : goal.count_opened-returns-clause-notes
+count_opened-returns-clause-notes t c =
+    counted_so c.args.self.now c.note.new.self c.count_all.new.self c.note_unnamed.new.self c.restore.new.self c.args.place c.below.result (kind_label c.args.opened.kind) (children_forest c.args.opened.children) (optional c.function_name-function.result) c.tally_before-before.result
+    c.function_name-function.ensures c.below.ensures c.tally_before-before.ensures c.in_ok-note.ensures c.in_ok-inside.ensures.notes c.in_ok-note_unnamed.ensures c.in_ok-restore.ensures
+
+pub count_opened-returns-clause-seen : goal.count_opened-returns-clause-seen
+count_opened-returns-clause-seen t c = seen_at (kind_label c.args.opened.kind) (children_forest c.args.opened.children) c.in_ok-inside.inside c.with.result c.in_ok-inside.ensures.seen c.with.ensures

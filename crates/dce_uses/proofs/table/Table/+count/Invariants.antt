@@ -7,10 +7,13 @@ use Rattle.dce_uses.proofs.Seeing.{SeenSo}
 use Rattle.dce_uses.proofs.table.Table.+count.Given as goal
 
 abbrev pub decreases-count : goal.decreases-count
-decreases-count l = tree_size (node_tree l.n) * 2
+decreases-count l = tree_size (node_tree l.n) * 3
+
+abbrev pub decreases-count_opened : goal.decreases-count_opened
+decreases-count_opened l = forest_size (children_forest l.opened.children) * 3 + 2
 
 abbrev pub decreases-count_all : goal.decreases-count_all
-decreases-count_all l = forest_size (children_forest l.children) * 2 + 1
+decreases-count_all l = forest_size (children_forest l.children) * 3 + 1
 
 abbrev pub invariant-count_all-loop-child : goal.invariant-count_all-loop-child
 invariant-count_all-loop-child l =

@@ -1,4 +1,4 @@
-use Rattle.std.proofs.Common.{sym, subst}
+use Rattle.std.proofs.Common.{refl, sym, subst}
 use Rattle.tree_walk.specs.Walks.{Fits}
 use Rattle.swc_branch.proofs.Resting.{expr_rests}
 use Rattle.swc_branch.proofs.Shields.{folded_at, unfolded_at, shielded_fits}
@@ -12,3 +12,6 @@ returns-in_ok-e-in-Some-clause-fits c = λ h. subst (Fits c.args.place) (sym c.i
 
 pub returns-in-None-clause-steps : goal.returns-in-None-clause-steps
 returns-in-None-clause-steps c = (unfolded_at _ _ _ _ c.in-None.is c.in_ok-folded.ensures, expr_rests c.fold_expr.new.e)
+
+pub returns-then-not-is_ruled-clause-steps : goal.returns-then-not-is_ruled-clause-steps
+returns-then-not-is_ruled-clause-steps c = (refl, expr_rests c.args.e.now)

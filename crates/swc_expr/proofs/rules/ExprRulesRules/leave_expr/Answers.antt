@@ -1,4 +1,4 @@
-use Rattle.std.proofs.Common.{sym, ◌∙◌, subst}
+use Rattle.std.proofs.Common.{sym, subst}
 use Rattle.tree_walk.specs.Walks.{Fits}
 use Rattle.swc_expr.proofs.Shields.{folded_at, shielded_fits}
 use Rattle.swc_expr.proofs.rules.ExprRulesRules.leave_expr.Goals as goal

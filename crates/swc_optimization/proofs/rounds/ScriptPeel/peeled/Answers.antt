@@ -1,5 +1,0 @@
-use Rattle.swc_pass.specs.Repeat.{none}
-use Rattle.swc_optimization.proofs.rounds.ScriptPeel.peeled.Goals as goal
-
-pub returns-clause-rounds : goal.returns-clause-rounds
-returns-clause-rounds c = none
