@@ -1,5 +1,5 @@
 -- What is left of nodes, as the functions answer it: from what is left of parts, which are the node's by equations.
-use Rattle.std.proofs.Common.{◌≡◌, ℕ, Bool, true, false, ◌||◌, List, [], ◌∷◌, map, Option, Some, None, refl, sym, ap, subst, ◌∙◌}
+use Rattle.std.proofs.Common.{◌≡◌, ℕ, Bool, true, false, List, [], ◌∷◌, map, Option, Some, None, sym, ap, subst, ◌∙◌}
 use Rattle.swc_ast.specs.Tree as tree
 use Rattle.swc_ast.specs.Tree.{Text, ItemKind, Tree, node, Forest, ε, ◌⊳◌}
 use Rattle.swc_ast.specs.declared.Span.{Span}
@@ -10,19 +10,18 @@ use Rattle.swc_ast.specs.declared.expressions.Expr.{Expr}
 use Rattle.swc_ast.specs.declared.expressions.ExprOrSpread.{ExprOrSpread}
 use Rattle.swc_ast.specs.Expressions.{array_tree, call_node, item_kind, item_spans, item_trees, unary_node}
 use Rattle.swc_ast.specs.Parts.{list_trees}
-use Rattle.swc_ast.specs.Scope.{joined}
 use Rattle.swc_ast.specs.Views.{expr_tree}
 use Rattle.swc_utils.specs.Effects.{has_record_spread, is_typeof}
 use Rattle.swc_utils.specs.Known.{pure_truth}
 use Rattle.swc_utils.specs.Pure.{has_spread, is_pure_callee}
 use Rattle.branch_rules.specs.Ignored.{Ignores, as_one, is_function_expression, may_skip, properties_parts}
-use Rattle.branch_expressions.specs.Choices.{Decides, choice_tree, only_tree}
-use Rattle.branch_expressions.specs.Left.{Adds, AddsItems, Leaves, Rested, is_change, other, tree_of}
+use Rattle.branch_expressions.specs.Choices.{Decides, only_tree}
+use Rattle.branch_expressions.specs.Left.{Adds, AddsItems, Leaves, Rested, other, tree_of}
 use Rattle.branch_expressions.specs.declared.rest.Rest.{Rest}
 use Rattle.branch_expressions.specs.declared.rest.Rest.TheVariants as rest
 use Rattle.branch_expressions.proofs.Adding.{same_adds, sequence_left}
 use Rattle.branch_expressions.proofs.Arms as arms
-use Rattle.branch_expressions.proofs.ArrayItems.{array_left, array_same}
+use Rattle.branch_expressions.proofs.ArrayItems.{array_left}
 use Rattle.branch_expressions.proofs.Made.{at_tree, rested, unary_left}
 use Rattle.branch_expressions.proofs.Nodes.{call_left, new_left, only_left, template_left, plain_array_left, object_left, sides_left}
 

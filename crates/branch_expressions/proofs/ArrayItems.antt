@@ -1,5 +1,5 @@
 -- What is left of an array's items, item by item.
-use Rattle.std.proofs.Common.{◌≡◌, ℕ, suc, ◌+◌, ◌<◌, ◌≤◌, Bool, true, false, ◌||◌, List, [], ◌∷◌, ◌++◌, length, take, get_or, map, append_assoc, Option, Some, None, refl, sym, ap, subst, ◌∙◌}
+use Rattle.std.proofs.Common.{◌≡◌, ℕ, ◌+◌, ◌<◌, ◌≤◌, Bool, true, false, ◌||◌, List, [], ◌∷◌, ◌++◌, length, take, get_or, map, append_assoc, Option, Some, None, refl, sym, ap, subst, ◌∙◌}
 use Rattle.std.proofs.lemmas.List.{take_all, take_more}
 use Rattle.swc_ast.specs.declared.Span.{Span}
 use Rattle.swc_ast.specs.declared.expressions.ArrayLit.{ArrayLit}
@@ -11,9 +11,9 @@ use Rattle.swc_ast.specs.Tree as tree
 use Rattle.swc_ast.specs.Tree.{ItemKind, Tree, node, Forest, ε, ◌⊳◌}
 use Rattle.swc_ast.specs.Views.{expr_tree}
 use Rattle.swc_utils.proofs.Chains.{joined_assoc, joined_none}
-use Rattle.branch_rules.specs.Ignored.{Ignores, ItemsLeft, no_items, item_goes, item_left, spread_stays, hole_goes, items_left, stays}
-use Rattle.branch_expressions.specs.Left.{Adds, AddsItems, AddsPlain}
-use Rattle.branch_expressions.proofs.Adding.{adds_both, or_assoc, or_none, same_left}
+use Rattle.branch_rules.specs.Ignored.{Ignores, ItemsLeft, no_items, item_goes, item_left, spread_stays, hole_goes, items_left}
+use Rattle.branch_expressions.specs.Left.{AddsItems, AddsPlain}
+use Rattle.branch_expressions.proofs.Adding.{or_assoc, or_none, same_left}
 
 abbrev Item : Type 0
 Item = Option (ExprOrSpread Expr)

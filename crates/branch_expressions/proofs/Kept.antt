@@ -1,5 +1,5 @@
 -- The properties of an object that stay, one after another.
-use Rattle.std.proofs.Common.{◌≡◌, ℕ, Bool, true, false, not, ◌||◌, Option, Some, None, List, [], ◌∷◌, ◌++◌, length, refl, sym, ap, subst, ◌∙◌, arith}
+use Rattle.std.proofs.Common.{◌≡◌, ℕ, Bool, true, false, not, ◌||◌, Some, List, [], ◌∷◌, ◌++◌, length, refl, sym, ap, subst, ◌∙◌, arith}
 use Rattle.std.specs.Vec.Iter.{into_iter_items, into_iter_len}
 use Rattle.std.specs.declared.vec.IntoIter.{IntoIter}
 use Rattle.swc_ast.specs.declared.Span.{Span}
@@ -12,7 +12,7 @@ use Rattle.swc_ast.specs.declared.expressions.PropOrSpread.TheVariants as in_pro
 use Rattle.swc_ast.specs.Expressions.{key_tree}
 use Rattle.swc_ast.specs.Parts.{list_trees}
 use Rattle.swc_ast.specs.Scope.{joined}
-use Rattle.swc_ast.specs.Tree.{Key, KeyValue, Object, PlainKey, Tree, node, Forest, ε, ◌⊳◌}
+use Rattle.swc_ast.specs.Tree.{KeyValue, Object, Tree, node, Forest, ε, ◌⊳◌}
 use Rattle.swc_ast.specs.Views.{expr_tree, prop_tree, prop_or_spread_tree}
 use Rattle.swc_ast.proofs.Equations.{prop_or_spread_tree-Prop, prop_tree-KeyValue}
 use Rattle.swc_utils.specs.Literals.{is_literal}

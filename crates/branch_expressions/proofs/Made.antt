@@ -1,5 +1,5 @@
 -- What is left of an expression, from the part that it was left of.
-use Rattle.std.proofs.Common.{◌≡◌, ◌<◌, ℕ, Bool, true, false, not, ◌||◌, if◌then◌else◌, List, [], ◌∷◌, length, Option, Some, None, refl, sym, ap, subst, ◌∙◌, arith}
+use Rattle.std.proofs.Common.{◌≡◌, ◌<◌, ℕ, Bool, true, false, not, if◌then◌else◌, List, [], ◌∷◌, length, Option, Some, None, refl, sym, ap, subst, ◌∙◌, arith}
 use Rattle.std.specs.Prelude.{IfSome}
 use Rattle.swc_ast.specs.declared.Span.{Span}
 use Rattle.swc_ast.specs.declared.UnaryOp.{UnaryOp}
@@ -11,7 +11,7 @@ use Rattle.swc_ast.specs.declared.expressions.Expr.{Expr}
 use Rattle.swc_ast.specs.Expressions.{unary_node}
 use Rattle.swc_ast.specs.Parts.{list_trees}
 use Rattle.swc_ast.specs.Tree as tree
-use Rattle.swc_ast.specs.Tree.{Tree, node, Forest, ε, ◌⊳◌}
+use Rattle.swc_ast.specs.Tree.{Tree, node, ε, ◌⊳◌}
 use Rattle.swc_ast.specs.Views.{expr_tree}
 use Rattle.swc_utils.specs.declared.answers.ValueType.{ValueType}
 use Rattle.swc_utils.specs.Effects.{is_typeof}
@@ -20,7 +20,7 @@ use Rattle.swc_utils.specs.Pure.{pure}
 use Rattle.swc_utils.specs.Types.{type_of}
 use Rattle.pass_rules.specs.Values.{is_nullish_type}
 use Rattle.pass_proofs.proofs.ExprTrees.{is_an_expression}
-use Rattle.branch_rules.specs.Ignored.{Ignores, IgnoresAll, stays, goes, itself, opened, operand, sides, none_left, one_goes, one_left, as_one, skips, may_skip, right_goes, right_left, right_runs, right_skipped, never_nullish, always_nullish}
+use Rattle.branch_rules.specs.Ignored.{Ignores, stays, goes, itself, opened, operand, none_left, one_goes, one_left, as_one, skips, right_runs, right_skipped, never_nullish, always_nullish}
 use Rattle.branch_rules.specs.Expressions as rules
 use Rattle.branch_expressions.specs.Left.{Leaves, Rested, is_change, other, tree_of}
 use Rattle.branch_expressions.specs.Choices.{Decides, Itself}

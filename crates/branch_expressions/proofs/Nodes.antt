@@ -1,26 +1,23 @@
 -- What is left of a node, from what is left of its parts.
-use Rattle.std.proofs.Common.{◌≡◌, ◌<◌, ℕ, zero, suc, length, get_or, arith, Bool, true, false, not, ◌||◌, if◌then◌else◌, List, [], ◌∷◌, ◌++◌, map, Option, Some, None, refl, sym, ap, subst, ◌∙◌}
+use Rattle.std.proofs.Common.{◌≡◌, ◌<◌, ℕ, zero, suc, length, get_or, arith, Bool, true, false, ◌||◌, if◌then◌else◌, List, [], ◌∷◌, ◌++◌, Option, Some, None, refl, sym, ap, subst, ◌∙◌}
 use Rattle.swc_ast.specs.Tree as tree
-use Rattle.swc_ast.specs.Tree.{Key, ItemKind, Text, Tree, node, Forest, ε, ◌⊳◌}
+use Rattle.swc_ast.specs.Tree.{ItemKind, Text, Tree, node, Forest, ε, ◌⊳◌}
 use Rattle.swc_ast.specs.declared.Span.{Span}
 use Rattle.swc_ast.specs.declared.BinaryOp.{BinaryOp}
 use Rattle.swc_ast.specs.declared.expressions.Expr.{Expr}
 use Rattle.swc_ast.specs.declared.expressions.PropOrSpread.{PropOrSpread}
-use Rattle.swc_ast.specs.declared.expressions.PropName.{PropName}
-use Rattle.swc_ast.specs.declared.expressions.PropName.TheVariants as key
-use Rattle.swc_ast.specs.declared.expressions.ComputedPropName.{ComputedPropName}
-use Rattle.swc_ast.specs.Expressions.{call_node, key_tree}
+use Rattle.swc_ast.specs.Expressions.{call_node}
 use Rattle.swc_ast.specs.Parts.{list_trees}
 use Rattle.swc_ast.specs.Scope.{joined}
 use Rattle.swc_ast.specs.Views.{expr_tree, prop_or_spread_tree}
 use Rattle.swc_utils.specs.Effects.{has_record_spread, is_record_spread}
 use Rattle.swc_utils.specs.Pure.{has_spread, is_pure_callee}
 use Rattle.swc_utils.proofs.Chains.{joined_assoc, joined_none}
-use Rattle.branch_rules.specs.Ignored.{Ignores, Opens, opened, none_left, one_goes, one_left, operand, sides, items, properties, texts, arguments, new_arguments, is_function_expression, as_one, may_skip, key_parts, property_parts, properties_parts}
-use Rattle.branch_rules.specs.Expressions.{ExpressionStep, same_arms, always_void}
+use Rattle.branch_rules.specs.Ignored.{Ignores, opened, none_left, one_goes, one_left, sides, items, properties, texts, arguments, new_arguments, is_function_expression, as_one, may_skip, property_parts, properties_parts}
+use Rattle.branch_rules.specs.Expressions.{ExpressionStep}
 use Rattle.branch_expressions.specs.Choices.{only_tree}
 use Rattle.branch_expressions.specs.Properties.{own_parts}
-use Rattle.branch_expressions.specs.Left.{Adds, Leaves, Rested, is_change, tree_of}
+use Rattle.branch_expressions.specs.Left.{Adds, Leaves, is_change, tree_of}
 use Rattle.branch_expressions.specs.declared.rest.Rest.{Rest}
 use Rattle.branch_expressions.proofs.Adding.{adds_both, opened_left, row_joined}
 

@@ -1,5 +1,5 @@
 -- Expressions that are undefined whatever is run.
-use Rattle.std.proofs.Common.{◌≡◌, ℕ, Bool, true, false, not, List, [], ◌∷◌, refl, sym, ap, subst, ◌∙◌}
+use Rattle.std.proofs.Common.{◌≡◌, ℕ, Bool, true, false, not, [], ◌∷◌, refl, ap, ◌∙◌}
 use Rattle.swc_ast.specs.Tree as tree
 use Rattle.swc_ast.specs.Tree.{Tree, node, ε, ◌⊳◌}
 use Rattle.swc_ast.specs.declared.Span.{Span}

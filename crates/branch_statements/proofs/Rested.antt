@@ -15,7 +15,7 @@ use Rattle.swc_ast.specs.Parts.{list_trees, optional_trees}
 use Rattle.swc_ast.specs.Redex.{own_redex, is_empty, is_number, is_simple_literal, is_simple_word, is_text}
 use Rattle.swc_ast.specs.Statements.{handler_param, handler_tree, option_block_tree, try_tree}
 use Rattle.swc_ast.specs.Tree as tree
-use Rattle.swc_ast.specs.Tree.{Name, Label, Tree, node, Forest, ε, ◌⊳◌, label_of}
+use Rattle.swc_ast.specs.Tree.{Name, Tree, node, Forest, ε, ◌⊳◌, label_of}
 use Rattle.swc_ast.specs.Valid.{is_listed, none_listed}
 use Rattle.swc_ast.specs.Views.{expr_tree, stmt_tree}
 use Rattle.swc_ast.proofs.ApartExpressions.{ExprForm, expr_form, expr_number, expr_at}

@@ -22,7 +22,7 @@ use Rattle.swc_ast.specs.Parts.{list_trees, option_word_spans, option_word_text,
 use Rattle.swc_ast.specs.Redex.{is_empty}
 use Rattle.swc_ast.specs.Statements.{block_tree, do_while_node, handler_param, handler_spans, handler_tree, option_block_tree, try_tree, while_node}
 use Rattle.swc_ast.specs.Tree as tree
-use Rattle.swc_ast.specs.Tree.{Tree, node, Forest, ε, ◌⊳◌, label_of}
+use Rattle.swc_ast.specs.Tree.{Tree, node, ε, ◌⊳◌, label_of}
 use Rattle.swc_ast.specs.Views.{decl_tree, stmt_tree}
 use Rattle.swc_ast.proofs.ApartStatements.{StmtForm, stmt_form, stmt_number, stmt_at}
 use Rattle.swc_ast.proofs.Equations.{for_tree-is, if_tree-is, loop_trees-is, stmt_tree-Break, stmt_tree-Decl, stmt_tree-DoWhile, stmt_tree-Empty, stmt_tree-For, stmt_tree-If, stmt_tree-While}

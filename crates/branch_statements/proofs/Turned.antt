@@ -26,7 +26,7 @@ use Rattle.pass_proofs.proofs.ExprTrees.{is_an_expression}
 use Rattle.branch_rules.specs.Ignored.{Ignores, goes}
 use Rattle.branch_rules.specs.Removes.{statement}
 use Rattle.branch_rules.specs.Statements as rule
-use Rattle.branch_rules.specs.Statements.{Alone, Chooses, StatementStep, all_give_nothing, all_plain, as_statement, gives_nothing, is_plain, left_alone, nothing_alone, else_arm, no_arm, only_arm, then_arm, is_word}
+use Rattle.branch_rules.specs.Statements.{Chooses, StatementStep, all_give_nothing, all_plain, as_statement, gives_nothing, is_plain, left_alone, nothing_alone, else_arm, no_arm, only_arm, then_arm, is_word}
 use Rattle.branch_rules.specs.Vars.{none_declared}
 use Rattle.branch_rules.specs.Turns.{Turns, by_rule}
 use Rattle.branch_expressions.specs.Left.{IsLeft}

@@ -1,7 +1,7 @@
 -- Expressions that are put, and what is put next.
 use Rattle.std.proofs.Common.{◌≡◌, ℤ, Bool, List, [], ◌∷◌, map, String, string_bytes, refl, sym, ap, ap₂, ◌∙◌, pos}
 use Rattle.std.specs.Borrow.{Bor}
-use Rattle.std.specs.Prelude.{Option, Some, None}
+use Rattle.std.specs.Prelude.{Option, Some}
 use Rattle.std.specs.declared.alloc.Global.{Global}
 use Rattle.std.specs.declared.boxed.Box.{Box}
 use Rattle.swc_ast.specs.Expressions.{unary_node}
@@ -17,7 +17,6 @@ use Rattle.swc_ast.specs.declared.literals.Lit.TheVariants as lit
 use Rattle.swc_ast.specs.declared.literals.Str.{Str}
 use Rattle.swc_ast.specs.declared.names.Ident.{Ident}
 use Rattle.swc_ast.specs.declared.names.SyntaxContext.{SyntaxContext}
-use Rattle.link_proofs.specs.Links.{Put}
 use Rattle.carry_rules.specs.Carry.{Pass, put_tree}
 use Rattle.tree_put.specs.Puts.{become}
 use Rattle.carry_parts.specs.declared.carry.Carry.{Carry}

@@ -1,5 +1,5 @@
 -- What the walk makes is what is written, up to spans.
-use Rattle.std.proofs.Common.{◌≡◌, Bool, true, false, List, [], ◌++◌, Result, Ok, Err, IfOk, OnOk, refl, sym, ap, ap₂, ◌∙◌}
+use Rattle.std.proofs.Common.{◌≡◌, true, false, List, [], Result, Ok, Err, IfOk, OnOk, refl, sym, ap, ap₂, ◌∙◌}
 use Rattle.std.proofs.lemmas.List.{append-nil}
 use Rattle.swc_ast.specs.declared.Span.{Span}
 use Rattle.swc_ast.specs.declared.UnaryOp.TheVariants.{TypeOf}
@@ -15,7 +15,7 @@ use Rattle.given_rules.specs.Put.{here}
 use Rattle.carry_parts.specs.Reads.{reads}
 use Rattle.carry_puts.specs.Placed.{putting, replaced, placed, placed_all}
 use Rattle.carry_puts.specs.Values.{IsPut}
-use Rattle.carry_puts.proofs.Clear.{Clear, starting_clear}
+use Rattle.carry_puts.proofs.Clear.{starting_clear}
 use Rattle.carry_puts.proofs.Consumed.{consumes, stands_here}
 
 bare_value : (v : Value) (ss rs : List Span) → bare (value_tree v ss) ≡ bare (value_tree v rs)

@@ -1,5 +1,5 @@
 -- What the walk puts.
-use Rattle.std.specs.Prelude.{ℤ, ◌≡◌, List, [], ◌∷◌, map, drop}
+use Rattle.std.specs.Prelude.{ℤ, ◌≡◌, List, map, drop}
 use Rattle.swc_ast.specs.declared.Span.{Span}
 use Rattle.swc_ast.specs.declared.expressions.Expr.{Expr}
 use Rattle.swc_ast.specs.declared.expressions.Expr.TheVariants as in_expr

@@ -1,13 +1,13 @@
 -- What is carried of the names of declarators.
-use Rattle.std.proofs.Common.{◌≡◌, ℕ, Bool, true, false, not, ◌&&◌, ◌||◌, List, [], ◌∷◌, Option, Some, None, refl, sym, ap, subst, ◌∙◌}
-use Rattle.std.proofs.lemmas.Bool.{false≢true, true≢false, not-true, not-false, and_parts, or_parts}
+use Rattle.std.proofs.Common.{◌≡◌, Bool, true, false, not, ◌&&◌, ◌||◌, List, Option, Some, None, refl, sym, ap, ◌∙◌}
+use Rattle.std.proofs.lemmas.Bool.{false≢true, true≢false, not-false, and_parts, or_parts}
 use Rattle.std.specs.Prelude.{is_some, IsSome, option_map, option_and_then, if◌then◌else◌}
 use Rattle.swc_ast.specs.declared.Span.{Span}
 use Rattle.swc_ast.specs.Tree.{Name, same_name, Forest}
 use Rattle.link_proofs.specs.Links.{Put, nothing, a_name, a_value}
 use Rattle.carry_rules.specs.Carry as carry
-use Rattle.carry_rules.specs.Carry.{Facts, Carried, or_put, put_unless, with_put, first_put, starting}
-use Rattle.static_proofs.proofs.Names.{same_name_path, same_name_swap}
+use Rattle.carry_rules.specs.Carry.{Carried, or_put, put_unless, with_put, first_put}
+use Rattle.static_proofs.proofs.Names.{same_name_path}
 use Rattle.carry_parts.specs.Carries.{put_of, puts_of}
 use Rattle.carry_parts.specs.declared.carry.Carry.{Carry}
 use Rattle.carry_parts.specs.declared.carry.Carry.TheVariants as a

@@ -1,9 +1,6 @@
 -- Declarations, and nodes that are none.
-use Rattle.std.proofs.Common.{◌≡◌, ℕ, Bool, true, false, ◌&&◌, ◌||◌, List, [], ◌∷◌, drop, refl, sym, ap, subst, ◌∙◌}
-use Rattle.std.proofs.lemmas.Bool.{false≢true, true≢false}
-use Rattle.swc_ast.specs.declared.Span.{Span}
-use Rattle.swc_ast.specs.declared.VarDeclKind.{VarDeclKind}
-use Rattle.swc_ast.specs.declared.declarations.VarDeclarator.{VarDeclarator}
+use Rattle.std.proofs.Common.{◌≡◌, ℕ, true, false, List, [], ◌∷◌, drop, refl, ap, subst, ◌∙◌}
+use Rattle.std.proofs.lemmas.Bool.{false≢true}
 use Rattle.swc_ast.specs.declared.declarations.Decl.{Decl}
 use Rattle.swc_ast.specs.declared.declarations.Decl.TheOpen as Open
 use Rattle.swc_ast.specs.declared.declarations.Decl.TheViews.{roll-Stmt, out-Stmt, roll-out-Stmt, roll-Prop, out-Prop, roll-out-Prop, roll-PropOrSpread, out-PropOrSpread, roll-out-PropOrSpread}
@@ -23,14 +20,12 @@ use Rattle.swc_ast.specs.declared.statements.Stmt.TheVariants as in_stmt
 use Rattle.swc_ast.proofs.ApartProps.{PropForm, PropOrSpreadForm}
 use Rattle.swc_ast.proofs.ApartStatements.{StmtForm}
 use Rattle.swc_ast.proofs.Equations.{stmt_tree-Block, stmt_tree-Empty, stmt_tree-Return, stmt_tree-Labeled, stmt_tree-Break, stmt_tree-Continue, stmt_tree-If, stmt_tree-Switch, stmt_tree-Throw, stmt_tree-Try, stmt_tree-While, stmt_tree-DoWhile, stmt_tree-For, stmt_tree-Expr, if_tree-is, switch_tree-is, for_tree-is, prop_or_spread_tree-Spread, prop_or_spread_tree-Prop, prop_tree-Shorthand, prop_tree-KeyValue, prop_tree-Method, method_tree-is}
-use Rattle.swc_ast.specs.Statements.{declarator_tree}
 use Rattle.swc_ast.specs.Tree as tree
-use Rattle.swc_ast.specs.Tree.{Label, Tree, node, Forest, label_of, spans_of, children_of}
+use Rattle.swc_ast.specs.Tree.{Label, Tree, label_of}
 use Rattle.swc_ast.specs.Views.{expr_tree, stmt_tree, prop_tree, prop_or_spread_tree, case_trees}
 use Rattle.swc_ast.specs.Expressions.{key_tree, param_tree}
 use Rattle.swc_ast.specs.Modules.{import_specifier_tree, export_specifier_tree}
-use Rattle.carry_rules.specs.Carry as carry
-use Rattle.carry_rules.specs.Carry.{Facts, Carried, groups, is_declaring, is_nowhere, behind}
+use Rattle.carry_rules.specs.Carry.{is_declaring}
 use Rattle.static_proofs.specs.Shaped.{is_inner}
 use Rattle.static_proofs.proofs.ShapedViews.{expr_shaped}
 use Rattle.tree_visit.specs.declared.node.Node.{Node}

@@ -1,11 +1,11 @@
 -- Names that are ready at the head of a node.
-use Rattle.std.proofs.Common.{◌≡◌, Bool, true, false, ◌||◌, List, [], ◌∷◌, ◌++◌, Result, Ok, Err, OnOk, refl, sym, ap, ap₂, ◌∙◌}
+use Rattle.std.proofs.Common.{◌≡◌, Bool, true, false, ◌||◌, List, ◌++◌, Result, Ok, Err, OnOk, refl, sym, ap, ap₂, ◌∙◌}
 use Rattle.std.proofs.lemmas.Bool.{true≢false}
 use Rattle.swc_ast.specs.declared.Span.{Span}
 use Rattle.swc_ast.specs.Scope.{has_name, param_name, param_names, joined, body_statements, case_statements}
 use Rattle.swc_ast.specs.Tree as tree
 use Rattle.swc_ast.specs.Tree.{Name, Label, Tree, node, Forest, ε, ◌⊳◌, label_of, children_of}
-use Rattle.carry_rules.specs.Carry.{function_name, item_function, list_functions, ready_at}
+use Rattle.carry_rules.specs.Carry.{function_name, item_function, list_functions}
 use Rattle.static_proofs.proofs.Names.{has_name_append}
 use Rattle.tree_visit.specs.Kinds.{kind_label}
 use Rattle.swc_ast.specs.Labels.{is_export_declaration}

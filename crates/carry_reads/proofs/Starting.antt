@@ -1,18 +1,16 @@
 -- Tables in which nothing is carried, and facts of a whole tree.
-use Rattle.std.proofs.Common.{◌≡◌, ℕ, zero, suc, ◌<◌, ◌≤◌, Bool, true, false, List, [], ◌∷◌, ◌++◌, length, slice_get, position, Option, Some, None, Result, Ok, Err, IfOk, refl, sym, ap, subst, ◌∙◌, arith}
-use Rattle.std.proofs.lemmas.Bool.{false≢true}
+use Rattle.std.proofs.Common.{◌≡◌, ℕ, ◌<◌, ◌≤◌, true, false, List, [], ◌∷◌, ◌++◌, length, slice_get, position, Option, Some, None, Result, Ok, Err, IfOk, refl, sym, ap, ◌∙◌, arith}
 use Rattle.std.proofs.lemmas.Option.{same_Some}
 use Rattle.std.specs.Prelude.{is_some, option_map, option_and_then, map}
 use Rattle.swc_ast.specs.Tree.{Name, same_name, Tree}
-use Rattle.link_proofs.specs.Links.{Put, nothing}
+use Rattle.link_proofs.specs.Links.{nothing}
 use Rattle.carry_rules.specs.Carry as carry
-use Rattle.carry_rules.specs.Carry.{Facts, facts, Carried, nothing_carried, or_put, starting, after}
+use Rattle.carry_rules.specs.Carry.{Facts, facts, or_put, starting, after}
 use Rattle.carry_parts.specs.Carries.{pass_of, puts_of}
 use Rattle.carry_parts.specs.Reads.{reads}
 use Rattle.carry_parts.specs.declared.carry.Carry.{Carry}
 use Rattle.carry_tables.specs.Tables.{at, item_of}
 use Rattle.carry_vars.specs.Facts.{Tells as TellsFacts}
-use Rattle.carry_vars.specs.declared.tally.Tally.{Tally}
 use Rattle.carry_vars.specs.declared.vars.Vars.{Vars}
 use Rattle.carry_reads.specs.declared.place.Place.{Place}
 use Rattle.carry_reads.specs.declared.reader.Reader.{Reader}
@@ -20,7 +18,6 @@ use Rattle.carry_reads.specs.declared.reading.Reading.{Reading}
 use Rattle.carry_reads.specs.declared.tables.Tables.{Tables}
 use Rattle.carry_reads.specs.Fronts.{is_set}
 use Rattle.carry_reads.specs.Settles.{numbered}
-use Rattle.carry_reads.specs.Values.{value_from}
 use Rattle.carry_reads.specs.States.{facts_of, state_of, Fits, IsNew}
 use Rattle.carry_reads.specs.Walks.{Walks}
 use Rattle.carry_reads.specs.Readings.{Tells}

@@ -1,5 +1,5 @@
 -- What is carried at a place: at the head of a node, and behind it.
-use Rattle.std.proofs.Common.{◌≡◌, ℕ, ◌<◌, ◌≤◌, Bool, true, false, ◌&&◌, ◌||◌, List, length, Option, Some, None, refl, sym, ap, subst, ◌∙◌, arith}
+use Rattle.std.proofs.Common.{◌≡◌, ℕ, ◌<◌, Bool, true, false, ◌&&◌, ◌||◌, List, length, Option, Some, None, refl, sym, ap, subst, ◌∙◌, arith}
 use Rattle.std.proofs.lemmas.Bool.{and_parts, false≢true}
 use Rattle.std.specs.Prelude.{nat_le, is_some, option_and_then, slice_get, if◌then◌else◌}
 use Rattle.swc_ast.specs.declared.Span.{Span}
@@ -7,10 +7,10 @@ use Rattle.swc_ast.specs.Scope.{is_function}
 use Rattle.swc_ast.specs.Tree.{Name, Label, VarDecl, ExportDecl, Forest}
 use Rattle.link_proofs.specs.Links.{Put, nothing}
 use Rattle.carry_rules.specs.Carry as carry
-use Rattle.carry_rules.specs.Carry.{Carried, or_put, starting, groups, is_nowhere, is_declaring, lists, is_exempt, keeps_names, ready_at, enter, leave}
+use Rattle.carry_rules.specs.Carry.{Carried, or_put, starting, groups, is_nowhere, is_declaring, keeps_names, ready_at, enter, leave}
 use Rattle.carry_parts.specs.Carries.{pass_of, puts_of}
 use Rattle.carry_parts.specs.declared.carry.Carry.{Carry}
-use Rattle.carry_tables.specs.Tables.{at, item_of, height, Keeps, Rewinds}
+use Rattle.carry_tables.specs.Tables.{item_of, height, Keeps, Rewinds}
 use Rattle.carry_tables.specs.declared.table.NameTable.{NameTable}
 use Rattle.carry_tables.specs.declared.scoped.Scoped.{Scoped}
 use Rattle.carry_vars.specs.declared.vars.Vars.{Vars}
@@ -19,10 +19,10 @@ use Rattle.carry_reads.specs.declared.reader.Reader.{Reader}
 use Rattle.carry_reads.specs.declared.settled.Settled.{Settled}
 use Rattle.carry_reads.specs.declared.tables.Mark.{Mark}
 use Rattle.carry_reads.specs.declared.tables.Tables.{Tables}
-use Rattle.carry_reads.specs.Fronts.{is_set, ready_of, names_in, Covers, Adds}
+use Rattle.carry_reads.specs.Fronts.{is_set, ready_of, names_in, Adds}
 use Rattle.carry_reads.specs.Values.{value_from, named}
 use Rattle.carry_reads.specs.Settles.{numbered, settled_of, Within, Grows}
-use Rattle.carry_reads.specs.States.{facts_of, value_at, state_of, below_of, Fits, Grown, Rewound, Leaves}
+use Rattle.carry_reads.specs.States.{facts_of, state_of, below_of, Fits, Grown, Rewound, Leaves}
 use Rattle.carry_reads.proofs.Undoing.{keeps_itself, keeps_on, undone_items, undone_keeps}
 use Rattle.carry_reads.proofs.Settling.{none_next, grows_itself, grows_on}
 

@@ -14,7 +14,7 @@ use Rattle.carry_rules.specs.Carry as carry
 use Rattle.carry_rules.specs.Carry.{Facts, Carried, starting, groups, is_nowhere, keeps_names, ready_at, enter, leave, behind, after, after_all, with_put}
 use Rattle.static_proofs.proofs.Names.{same_name_swap}
 use Rattle.tree_visit.proofs.Caps.{tree_size, forest_size, opened_smaller}
-use Rattle.carry_parts.specs.Carries.{pass_of, puts_of}
+use Rattle.carry_parts.specs.Carries.{pass_of}
 use Rattle.carry_parts.specs.Reads.{own_reads, reads, reads_all}
 use Rattle.carry_parts.specs.declared.carry.Carry.{Carry}
 use Rattle.carry_tables.specs.Tables.{height}

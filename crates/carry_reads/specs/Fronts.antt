@@ -1,5 +1,5 @@
 -- Names that may stand for others, as a table has them.
-use Rattle.std.specs.Prelude.{◌≡◌, ℕ, zero, suc, Bool, true, false, ◌&&◌, ◌||◌, Option, Some, None, is_some}
+use Rattle.std.specs.Prelude.{◌≡◌, ℕ, suc, Bool, true, false, ◌&&◌, ◌||◌, Option, Some, is_some}
 use Rattle.swc_ast.specs.Tree.{Name}
 use Rattle.carry_tables.specs.Tables.{at, item_of, Keeps}
 use Rattle.carry_tables.specs.declared.scoped.Scoped.{Scoped}

@@ -1,5 +1,5 @@
 -- What is carried of variables, as a table has it.
-use Rattle.std.specs.Prelude.{◌≡◌, ℕ, ◌<◌, ◌≤◌, nat_le, if◌then◌else◌, List, length, Option, Some, None, is_some, option_and_then, slice_get}
+use Rattle.std.specs.Prelude.{◌≡◌, ℕ, ◌<◌, ◌≤◌, nat_le, if◌then◌else◌, List, length, Option, Some, None, option_and_then, slice_get}
 use Rattle.swc_ast.specs.Tree.{Name}
 use Rattle.link_proofs.specs.Links.{Put, nothing}
 use Rattle.carry_parts.specs.Carries.{puts_of}

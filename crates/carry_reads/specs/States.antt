@@ -6,7 +6,7 @@ use Rattle.link_proofs.specs.Links.{Put}
 use Rattle.carry_rules.specs.Carry as carry
 use Rattle.carry_rules.specs.Carry.{Facts, Carried, or_put, starting, is_declaring, lists, is_exempt}
 use Rattle.carry_parts.specs.Carries.{pass_of}
-use Rattle.carry_tables.specs.Tables.{at, item_of, height, Keeps, Rewinds}
+use Rattle.carry_tables.specs.Tables.{at, item_of, Keeps, Rewinds}
 use Rattle.carry_tables.specs.declared.scoped.Scoped.{Scoped}
 use Rattle.carry_vars.specs.Facts.{steady_of, constant_of, variable_of, unset_of}
 use Rattle.carry_vars.specs.declared.vars.Vars.{Vars}

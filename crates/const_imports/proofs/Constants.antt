@@ -1,8 +1,8 @@
 -- What the locals of a module tell of names and members is what is given for them.
-use Rattle.std.proofs.Common.{◌≡◌, Bool, true, false, List, [], ◌∷◌, ◌++◌, if◌then◌else◌, Option, Some, None, option_map, is_some, refl, sym, ap, ap₂, ◌∙◌, codes}
+use Rattle.std.proofs.Common.{◌≡◌, Bool, true, false, List, [], ◌∷◌, ◌++◌, if◌then◌else◌, Option, Some, None, option_map, refl, ap, ap₂, ◌∙◌, codes}
 use Rattle.swc_ast.specs.Run.{imported_text}
 use Rattle.swc_ast.specs.Tree.{Text, Name, same_name, Label, Import, ImportNamed, ImportDefault, ImportStar, Tree, node, Forest, ε, ◌⊳◌}
-use Rattle.swc_pass.specs.Constants.{Constants, or_expression, by_specifier, by_namespace, in_specifiers, in_item, in_items, constant, member}
+use Rattle.swc_pass.specs.Constants.{Constants, or_expression, by_specifier, by_namespace, in_specifiers, in_item, constant, member}
 use Rattle.const_imports.specs.Locals.{Local, export_name, specifier_locals, specifiers_locals, item_locals, locals}
 use Rattle.const_imports.specs.Views.{is_given, value_of, constants_of, group_of, of_text, or_value, value_at, member_at, constant_in, member_in}
 use Rattle.const_imports.specs.declared.given.GivenModules.{GivenModules}

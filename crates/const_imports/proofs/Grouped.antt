@@ -1,5 +1,5 @@
 -- The locals of one text tell all of a name of this text.
-use Rattle.std.proofs.Common.{◌≡◌, ℕ, Bool, true, false, ◌&&◌, ◌==◌, cond, List, [], ◌∷◌, ◌++◌, map, if◌then◌else◌, bytes_eq, Option, Some, None, option_map, HashMap, refl, sym, ap, ◌∙◌}
+use Rattle.std.proofs.Common.{◌≡◌, ℕ, Bool, true, false, ◌&&◌, ◌==◌, cond, List, [], ◌∷◌, ◌++◌, if◌then◌else◌, bytes_eq, Option, Some, None, option_map, HashMap, refl, sym, ap, ◌∙◌}
 use Rattle.std.proofs.lemmas.List.{append_assoc, map-append}
 use Rattle.std.proofs.lemmas.Map.Text.{hash_map_updates_str}
 use Rattle.std.proofs.lemmas.Slice.Eq.{bytes_eq-Decides}
@@ -8,8 +8,8 @@ use Rattle.std.specs.HashMap.{get_by, UpdatesBy}
 use Rattle.std.specs.declared.alloc.Global.{Global}
 use Rattle.std.specs.declared.vec.Vec.{Vec}
 use mathlib.Core.Path.{fun_ext}
-use Rattle.swc_ast.specs.Tree.{Text, Name, same_name, Forest}
-use Rattle.const_imports.specs.Locals.{Local, Role, own_role, role_in, export_name, locals}
+use Rattle.swc_ast.specs.Tree.{Text, Name, same_name}
+use Rattle.const_imports.specs.Locals.{Local, own_role, role_in, export_name}
 use Rattle.const_imports.specs.Views.{local_of, locals_of, of_text, group_in, group_of, roles_of, or_value, value_at, member_at, constant_in, member_in}
 use Rattle.const_imports.specs.declared.imports.Local as rust
 use Rattle.const_imports.specs.declared.table.Locals.{Locals}

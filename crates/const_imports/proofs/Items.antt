@@ -1,7 +1,6 @@
 -- Statements are no imports.
 use Rattle.std.proofs.Common.{◌≡◌, ◌≤◌, Bool, false, List, [], ◌++◌, subst, sym, ap, ◌∙◌, arith, refl}
 use Rattle.std.proofs.lemmas.List.{append-nil}
-use Rattle.swc_ast.specs.Modules.{item_tree}
 use Rattle.swc_ast.specs.Tree.{Text, Label, Import, Tree, node, Forest, label_of, children_of}
 use Rattle.swc_ast.specs.Views.{stmt_tree}
 use Rattle.swc_ast.specs.declared.declarations.Decl.TheOpen as Open

@@ -1,27 +1,25 @@
 -- A module without the imports of given modules stays valid and core, and resolved where nothing in it is to be refused.
-use Rattle.std.proofs.Common.{◌≡◌, ◌⊎◌, inl, inr, ℕ, Bool, true, false, ◌||◌, List, [], ◌∷◌, ◌++◌, drop, if◌then◌else◌, Option, Some, None, refl, sym, ap, subst, ◌∙◌}
-use Rattle.std.proofs.lemmas.Bool.{false≢true, true≢false, or_cases}
+use Rattle.std.proofs.Common.{◌≡◌, ◌⊎◌, inl, inr, ℕ, Bool, true, false, ◌||◌, List, [], ◌∷◌, ◌++◌, drop, if◌then◌else◌, refl, sym, ap, ◌∙◌}
+use Rattle.std.proofs.lemmas.Bool.{false≢true, or_cases}
 use Rattle.std.proofs.lemmas.List.{append-nil}
 use Rattle.swc_ast.specs.declared.Span.{Span}
 use Rattle.swc_ast.specs.Core.{IsCore}
-use Rattle.swc_ast.specs.Modules.{item_tree}
-use Rattle.swc_ast.specs.Parts.{list_trees}
 use Rattle.swc_ast.specs.Resolved.{IsResolved}
 use Rattle.swc_ast.specs.Run.{imported_text}
 use Rattle.swc_ast.specs.Scope.{has_name, joined, specifier_names, imported_name}
 use Rattle.swc_ast.specs.Tree.{Text, Name, same_name, Label, Module, Import, ImportNamed, ImportDefault, ImportStar, ExportNamed, ExportSpecifier, Tree, node, Forest, ε, ◌⊳◌}
 use Rattle.swc_ast.specs.Valid.{valid}
 use Rattle.static_proofs.specs.Keeps.{Keeps}
-use Rattle.static_proofs.specs.Spares.{Spared, export_names, exports_by, exports_all}
+use Rattle.static_proofs.specs.Spares.{export_names, exports_all}
 use Rattle.static_proofs.specs.Together.{KeepsAll, SparesAll}
 use Rattle.static_proofs.proofs.Kept.{all_keep_itself}
-use Rattle.static_proofs.proofs.Names.{same_name_path, same_name_itself, same_name_swap, has_name_append, within_none, within_same}
+use Rattle.static_proofs.proofs.Names.{same_name_path, same_name_swap, has_name_append, within_none, within_same}
 use Rattle.static_proofs.proofs.Spared.{spared_none, spared_same}
 use Rattle.static_proofs.proofs.Together.{together, all_dropped, kept_joined, spared_joined, list_keeps, module_spares_all}
 use Rattle.static_proofs.proofs.Whole.{resolved_kept, core_kept}
 use Rattle.swc_pass.specs.Constants.{Constants, is_given_import, without_given}
 use Rattle.const_imports.specs.Faults as spec
-use Rattle.const_imports.specs.Faults.{Fault, Has, export_faults, use_faults, each_faults}
+use Rattle.const_imports.specs.Faults.{Has, export_faults, use_faults, each_faults}
 use Rattle.const_imports.specs.Locals.{Local, Imported, an_export, the_default, the_namespace, Role, a_constant, other, a_namespace, own_role, role_in, specifier_locals, specifiers_locals, item_locals, locals}
 
 nothing_joined : {A : Type 0} (xs ys : List A) → xs ++ ys ≡ [] → (xs ≡ []) × (ys ≡ [])

@@ -1,5 +1,5 @@
 -- What is wrong with a module, by a table of its locals.
-use Rattle.std.proofs.Common.{◌≡◌, ◌⊎◌, inl, inr, Bool, List, [], ◌++◌, Option, Some, None, refl, sym, ap, ap₂, ◌∙◌}
+use Rattle.std.proofs.Common.{◌≡◌, ◌⊎◌, inl, inr, Bool, List, [], ◌++◌, Option, Some, None, sym, ap, ap₂, ◌∙◌}
 use Rattle.swc_ast.specs.Tree.{Text, Forest}
 use Rattle.swc_ast.specs.declared.errors.PassError.{PassError}
 use Rattle.swc_ast.specs.declared.errors.PassError.TheVariants as error

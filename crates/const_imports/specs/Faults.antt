@@ -1,8 +1,6 @@
 -- Why a module with imports of given modules is refused: the imports in order, and then the rest in the order of the text.
-use Rattle.std.specs.Prelude.{ℕ, Bool, true, false, if◌then◌else◌, List, [], ◌∷◌, ◌++◌, drop, Option, Some, None, codes}
-use Rattle.swc_ast.specs.declared.UnaryOp.TheVariants.{Delete}
-use Rattle.swc_ast.specs.Tree.{Text, Name, Label, StrLit, Read, Shorthand, TypeOfName, Unary, Dot, Index, CallEval, CallDot, CallIndex, Assign, Update, ExportSpecifier, Tree, node, Forest, ε, ◌⊳◌, label_of}
-use Rattle.swc_pass.specs.Constants.{Constants}
+use Rattle.std.specs.Prelude.{ℕ, Bool, if◌then◌else◌, List, [], ◌∷◌, ◌++◌, drop, Option, Some, None, codes}
+use Rattle.swc_ast.specs.Tree.{Text, Name, Label, StrLit, Read, Shorthand, TypeOfName, Dot, Index, CallEval, CallDot, CallIndex, Assign, Update, ExportSpecifier, Tree, node, Forest, ε, ◌⊳◌, label_of}
 use Rattle.swc_ast.specs.Redex.{is_delete}
 use Rattle.const_imports.specs.Locals.{Imported, an_export, the_default, the_namespace, Local, locals, Role, a_constant, other, a_namespace, role_in}
 

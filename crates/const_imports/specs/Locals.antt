@@ -1,7 +1,7 @@
 -- Which names the imports of given modules bind, and for what they stand.
 use Rattle.std.specs.Prelude.{Bool, false, if◌then◌else◌, List, [], ◌∷◌, ◌++◌, Option, Some, None, codes}
 use Rattle.swc_ast.specs.Run.{imported_text}
-use Rattle.swc_ast.specs.Tree.{Text, Name, same_name, Label, Import, ImportNamed, ImportDefault, ImportStar, Tree, Forest, ε, ◌⊳◌, label_of, children_of}
+use Rattle.swc_ast.specs.Tree.{Text, Name, same_name, Label, Import, ImportNamed, ImportDefault, ImportStar, Forest, ε, ◌⊳◌, label_of, children_of}
 
 -- what is imported: an export by its name, the default export, or all exports
 pub data Imported : Type 0 where

@@ -1,5 +1,5 @@
 -- What given modules, borrowed parts and tables stand for.
-use Rattle.std.specs.Prelude.{ℕ, zero, suc, Bool, true, false, if◌then◌else◌, List, [], ◌∷◌, map, filter, Option, Some, None, is_some, option_map, string_bytes, bytes_eq, ◌≡◌}
+use Rattle.std.specs.Prelude.{ℕ, zero, suc, Bool, if◌then◌else◌, List, [], ◌∷◌, map, filter, Option, Some, None, is_some, option_map, string_bytes, bytes_eq, ◌≡◌}
 use Rattle.std.specs.Borrow.{Bor}
 use Rattle.std.specs.BTreeMap.{BTreeMap, get_by_text}
 use Rattle.std.specs.HashMap.{get_by}

@@ -18,13 +18,12 @@ use Rattle.swc_ast.specs.Views.{expr_tree}
 use Rattle.meaning_proofs.proofs.Quiet.{declares_nothing}
 use Rattle.meaning_proofs.proofs.Spans.{same_bare}
 use Rattle.swc_pass.specs.Chain.{GivesBack, input, other}
-use Rattle.swc_pass.specs.Constants.{Constants, constant_at, member_of, items_of, without_given, unloaded, constants}
+use Rattle.swc_pass.specs.Constants.{Constants, constant_at, member_of, without_given, unloaded, constants}
 use Rattle.swc_pass.specs.Constants as given
 use Rattle.swc_pass.specs.Given.{Answers, SameGiven}
-use Rattle.swc_pass.specs.Pass.{SameBare}
 use Rattle.given_shield.specs.Shield.{shield}
 use Rattle.given_rules.specs.Givable.{AllGivable}
-use Rattle.given_rules.specs.Put.{here, Puts, put, put_all}
+use Rattle.given_rules.specs.Put.{here, Puts, put}
 use Rattle.tree_put.specs.Still.{still}
 use Rattle.tree_put.specs.Walks.{Makes}
 use Rattle.given_rules.specs.Walk.{put_answer}

@@ -1,5 +1,5 @@
 -- A script imports nothing: nothing is put in it, and it does in the world with answers what it does.
-use Rattle.std.proofs.Common.{◌≡◌, ℕ, Bool, true, false, List, [], ◌∷◌, Option, Some, None, option_map, refl, sym, ap, subst, ◌∙◌}
+use Rattle.std.proofs.Common.{◌≡◌, ℕ, true, false, List, [], ◌∷◌, Option, Some, None, option_map, refl, sym, ap, subst, ◌∙◌}
 use Rattle.std.proofs.lemmas.Bool.{false≢true}
 use Rattle.swc_ast.specs.declared.Span.{Span}
 use Rattle.swc_ast.specs.declared.UnaryOp.TheVariants as op
@@ -13,7 +13,6 @@ use Rattle.swc_ast.specs.declared.statements.Stmt.{Stmt}
 use Rattle.swc_ast.specs.Modules.{script_tree}
 use Rattle.tree_put.specs.declared.rules.Spot.{Spot}
 use Rattle.swc_pass.specs.Constants.{Constants, or_expression, in_items, in_item, constants}
-use Rattle.swc_pass.specs.Constants as given
 use Rattle.swc_pass.specs.Given.{SameGiven}
 use Rattle.given_shield.specs.Shield.{shield}
 use Rattle.given_rules.specs.Put.{here, callee, operand, Puts, or_parts, called, of_type, as_property, first_spot, around, put, put_all}

@@ -1,5 +1,5 @@
 -- What the walk makes of a module without imports of given modules.
-use Rattle.std.proofs.Common.{◌≡◌, List, [], true, refl, sym, ap, ◌∙◌}
+use Rattle.std.proofs.Common.{◌≡◌, [], true, sym, ap, ◌∙◌}
 use Rattle.swc_ast.specs.Tree.{Text, Tree, Forest}
 use Rattle.swc_ast.specs.Views.{expr_tree}
 use Rattle.swc_pass.specs.Constants.{constants}

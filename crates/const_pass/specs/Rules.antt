@@ -1,6 +1,6 @@
 -- What the rules of the walk put for an expression that is read.
-use Rattle.std.specs.Prelude.{List, [], Option, Some, None, option_map}
-use Rattle.swc_ast.specs.Tree.{Text, Name, StrLit, Read, Dot, Index, Tree, node, Forest, ε, ◌⊳◌}
+use Rattle.std.specs.Prelude.{[], Option, Some, None, option_map}
+use Rattle.swc_ast.specs.Tree.{Text, Name, StrLit, Read, Dot, Index, Tree, node, ε, ◌⊳◌}
 use Rattle.swc_ast.specs.Parts.{word_text}
 use Rattle.swc_ast.specs.Views.{expr_tree}
 use Rattle.swc_ast.specs.declared.expressions.Expr.{Expr}

@@ -1,5 +1,5 @@
 -- Assignments to names that nothing reads.
-use Rattle.std.proofs.Common.{◌≡◌, true, List, sym, ap, subst, ◌∙◌}
+use Rattle.std.proofs.Common.{◌≡◌, true, List, sym, subst}
 use Rattle.swc_ast.specs.declared.Span.{Span}
 use Rattle.swc_ast.specs.declared.expressions.AssignExpr.{AssignExpr}
 use Rattle.swc_ast.specs.declared.expressions.Expr.{Expr}

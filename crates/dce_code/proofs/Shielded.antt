@@ -1,5 +1,5 @@
 -- Values that stand behind `(0, ..)`.
-use Rattle.std.proofs.Common.{◌≡◌, true, List, [], ◌∷◌, refl, sym, subst}
+use Rattle.std.proofs.Common.{◌≡◌, true, List, refl, sym, subst}
 use Rattle.swc_ast.specs.declared.Span.{Span}
 use Rattle.swc_ast.specs.Tree.{Tree}
 use Rattle.tree_walk.proofs.NodeKinds.{alone_fits}

@@ -20,7 +20,7 @@ use Rattle.static_proofs.specs.Names.{is_some_tree}
 use Rattle.swc_ast.specs.Parts.{ident_name, list_trees, optional_trees}
 use Rattle.swc_ast.specs.Scope.{joined}
 use Rattle.swc_ast.specs.Statements.{declarator_tree, var_tree}
-use Rattle.swc_ast.specs.Tree.{Name, Declarator, ExprStmt, Seq, Tree, node, Forest, ε, ◌⊳◌}
+use Rattle.swc_ast.specs.Tree.{Declarator, ExprStmt, Seq, Tree, node, Forest, ε, ◌⊳◌}
 use Rattle.swc_ast.specs.Views.{expr_tree, stmt_tree}
 use Rattle.swc_utils.proofs.Chains.{joined_none, joined_assoc, pushed}
 use Rattle.dce_rules.specs.Left.{is_plain_value, any_of}

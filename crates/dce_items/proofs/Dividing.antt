@@ -1,12 +1,12 @@
 -- Parts of an item.
-use Rattle.std.proofs.Common.{ℕ, ◌≡◌, Bool, true, false, not, ◌&&◌, if◌then◌else◌, List, [], ◌∷◌, ◌++◌, Option, Some, None, refl, sym, ap, ap₂, subst, ◌∙◌}
+use Rattle.std.proofs.Common.{ℕ, ◌≡◌, Bool, true, false, not, ◌&&◌, if◌then◌else◌, List, Some, None, refl, sym, ap, ap₂, subst, ◌∙◌}
 use Rattle.std.specs.Borrow.{Bor}
 use Rattle.std.proofs.lemmas.Bool.{false≢true}
 use Rattle.swc_ast.specs.declared.Span.{Span}
 use Rattle.swc_ast.specs.declared.VarDeclKind.{VarDeclKind}
 use Rattle.swc_ast.specs.declared.names.Ident.{Ident}
 use Rattle.swc_ast.specs.Parts.{ident_name}
-use Rattle.swc_ast.specs.Tree.{Name, Label, VarDecl, Declarator, FnDecl, Tree, node, Forest, ε, ◌⊳◌, label_of, children_of}
+use Rattle.swc_ast.specs.Tree.{Name, Label, VarDecl, Declarator, FnDecl, Tree, node, Forest, ε, ◌⊳◌}
 use Rattle.static_proofs.specs.Names.{is_some_tree}
 use Rattle.swc_utils.specs.Pure.{pure}
 use Rattle.tree_visit.specs.declared.kind.Kind.{Kind}

@@ -1,5 +1,5 @@
 -- What is left where a list stood in a wrapper.
-use Rattle.std.proofs.Common.{ℕ, ◌+◌, ◌≡◌, Bool, true, false, if◌then◌else◌, List, [], ◌∷◌, Option, Some, None, Vec, Box, Global, Result, Ok, Err, IfOk, refl, sym, ap, ap₂, subst, ◌∙◌}
+use Rattle.std.proofs.Common.{ℕ, ◌+◌, ◌≡◌, Bool, true, false, if◌then◌else◌, List, [], ◌∷◌, Option, Vec, Box, Global, Result, Ok, Err, IfOk, sym, ap, ap₂, ◌∙◌}
 use Rattle.std.proofs.lemmas.Bool.{false≢true}
 use Rattle.swc_ast.specs.declared.Span.{Span}
 use Rattle.swc_ast.specs.declared.expressions.ArrowExpr.{ArrowExpr}
@@ -10,19 +10,19 @@ use Rattle.swc_ast.specs.declared.names.Ident.{Ident}
 use Rattle.swc_ast.specs.declared.declarations.Function.{Function}
 use Rattle.swc_ast.specs.declared.statements.Stmt.{Stmt}
 use Rattle.swc_ast.specs.Expressions as form
-use Rattle.swc_ast.specs.Expressions.{is_eval, fn_expr_tree, body_tree, params_tree}
+use Rattle.swc_ast.specs.Expressions.{is_eval, fn_expr_tree, params_tree}
 use Rattle.swc_ast.specs.Parts.{list_trees, option_ident_name, option_ident_spans}
-use Rattle.swc_ast.specs.Tree.{Name, Label, Fn, Arrow, Read, Dot, Index, Call, CallDot, CallIndex, CallEval, Params, Body, ExprStmt, Tree, node, Forest, ε, ◌⊳◌}
+use Rattle.swc_ast.specs.Tree.{Name, Label, Fn, Arrow, Read, Dot, Index, Call, CallEval, Body, ExprStmt, Tree, node, Forest, ε, ◌⊳◌}
 use Rattle.swc_ast.specs.Views.{arrow_tree, arrow_body_tree, expr_tree, function_trees, stmt_tree}
 use Rattle.swc_ast.proofs.Equations.{function_trees-is, arrow_tree-is}
-use Rattle.dce_layer_proofs.specs.Frames.{Wrapper, function_label, wrapped_function, wrapped_call, wrapped}
+use Rattle.dce_layer_proofs.specs.Frames.{Wrapper, wrapped_function, wrapped_call, wrapped}
 use Rattle.dce_layer_proofs.specs.Layers.{items, live}
 use Rattle.dce_items.specs.declared.inside.Inside.{Inside}
 use Rattle.dce_items.specs.Described.{layered}
 use Rattle.dce_items.specs.Remaining.{Remains, RemainsIn, wrapped_body}
 use Rattle.dce_peel.specs.Rounds.{staying}
 use Rattle.dce_items.proofs.Laying.{staying_live}
-use Rattle.dce_items.proofs.Wrapping.{called, called_node}
+use Rattle.dce_items.proofs.Wrapping.{called_node}
 
 -- the same of trees that are others
 pub remains_as : (f : Wrapper → Forest → Tree) (g : Inside) (t u v w : Tree) → t ≡ v → u ≡ w → RemainsIn f g v w → RemainsIn f g t u

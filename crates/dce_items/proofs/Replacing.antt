@@ -1,13 +1,12 @@
 -- A module with another item at the place of its wrapper.
-use Rattle.std.proofs.Common.{ℕ, zero, suc, ◌+◌, ◌≡◌, ◌<◌, ◌≤◌, List, [], ◌∷◌, ◌++◌, length, get_or, set, take, drop, refl, sym, ap, ap₂, subst, ◌∙◌, arith}
+use Rattle.std.proofs.Common.{ℕ, zero, suc, ◌+◌, ◌≡◌, ◌<◌, List, [], ◌∷◌, ◌++◌, length, get_or, set, take, drop, refl, sym, ap, ap₂, ◌∙◌, arith}
 use Rattle.std.proofs.lemmas.List.{set_split}
-use Rattle.swc_ast.specs.declared.Span.{Span}
 use Rattle.swc_ast.specs.declared.modules.Module.{Module}
 use Rattle.swc_ast.specs.declared.modules.ModuleItem.{ModuleItem}
 use Rattle.swc_ast.specs.Modules.{item_tree, module_tree}
 use Rattle.swc_ast.specs.Parts.{list_trees}
 use Rattle.swc_ast.specs.Scope.{joined}
-use Rattle.swc_ast.specs.Tree.{Module as Whole, Tree, node, Forest, ε, ◌⊳◌}
+use Rattle.swc_ast.specs.Tree.{Module as Whole, Tree, node, Forest, ◌⊳◌}
 use Rattle.dce_layer_proofs.specs.Frames.{Wrapper, wrapped, within}
 use Rattle.dce_items.specs.Wrapped.{WrapperAt, around}
 

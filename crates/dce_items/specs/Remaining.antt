@@ -1,5 +1,5 @@
 -- What is left where a list stood in a node of a wrapper, by the layers of its items.
-use Rattle.std.specs.Prelude.{ℕ, ◌+◌, ◌≡◌}
+use Rattle.std.specs.Prelude.{◌+◌, ◌≡◌}
 use Rattle.swc_ast.specs.Tree.{Body, Tree, node, Forest}
 use Rattle.dce_layer_proofs.specs.Frames.{Wrapper}
 use Rattle.dce_layer_proofs.specs.Layers.{items, live}

@@ -2,7 +2,7 @@
 use Rattle.std.proofs.Common.{◌≡◌, Bool, true, false, ◌&&◌, ◌||◌, if◌then◌else◌, List, [], ◌∷◌, ◌++◌, Some, None, refl, sym, ap, ◌∙◌}
 use Rattle.std.proofs.lemmas.Bool.{false≢true, or_left, or_right, and_parts}
 use Rattle.swc_ast.specs.Tree as tree
-use Rattle.swc_ast.specs.Tree.{Text, Name, Label, same_name, Tree, node, Forest, ε, ◌⊳◌}
+use Rattle.swc_ast.specs.Tree.{Name, Label, same_name, Tree, node, Forest, ε, ◌⊳◌}
 use Rattle.swc_ast.specs.Reach.{named_by, declares, named_outside, outside_in, is_exported}
 use Rattle.swc_ast.specs.Resolved.{params_of}
 use Rattle.swc_ast.specs.Run.{own_texts, declared_exports, specifier_export, specifier_exports, item_exports, exported}

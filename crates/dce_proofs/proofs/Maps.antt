@@ -26,7 +26,7 @@ use Rattle.tree_walk.specs.Walks as walk
 use Rattle.tree_walk.specs.Walks.{Walks, Entered, ListMade, AllWalk, nothing, both}
 use Rattle.dce_rules.specs.Left.{any_of, is_plain_value}
 use Rattle.dce_rules.specs.Shakes as rules
-use Rattle.dce_rules.specs.Shakes.{Shaker, Early, Opens, Goes as GoesBehind, Leaves, as_statement, Shakes, ItemGoes, item_goes, all_go, import_goes, Drops, items_go, shake_pass}
+use Rattle.dce_rules.specs.Shakes.{Shaker, Early, Opens, Goes as GoesBehind, Leaves, as_statement, Shakes, ItemGoes, items_go, shake_pass}
 use Rattle.dce_proofs.proofs.Owes.{opens_owe, shakes_owe, dropping}
 use Rattle.dce_proofs.proofs.Thinned.{drops_keep}
 use Rattle.dce_proofs.proofs.Walked.{gone, is_left, Goes, no_more_of, fewer_of, Specifiers, no_more, stays, goes, empty_statement, empty_block, statements, value_alone, value_guarded, Walked, same_node, same_list, same_import, declaration, first_values, opened, called, Each, none, more, Items, no_item, item, function_goes, nothing_goes, import_goes as whole_import_goes, Declarators, no_declarator, declarator, unset_goes, early_goes, value_goes, value_left}

@@ -4,7 +4,7 @@ use mathlib.Core.Path.{fun_ext}
 use Rattle.swc_ast.specs.declared.Span.{Span}
 use Rattle.swc_ast.specs.Tree.{Name, Call, Fn, Params, Body, Return, Object, node, Forest, ε, ◌⊳◌}
 use Rattle.swc_ast.specs.Value.{Env, Value, Undefined, Record, Fields, nofield, Cell, State, Reply, Gives, Throws, Returned, Thrown, Outcome, Done, Jumps, Outside, Cut, Run, and_then, Context, is_data}
-use Rattle.swc_ast.specs.Meaning.{gives, leaves, jumps, in_core, ask, take_reply, read, read_host, read_bound, held_value, cell_at, Caller, is_unresolved, object_fields, merged, key_name, one_field, eval, evals, act, in_scope, at_return, all_values, call_value}
+use Rattle.swc_ast.specs.Meaning.{gives, jumps, in_core, ask, take_reply, read, read_host, read_bound, held_value, cell_at, Caller, is_unresolved, object_fields, merged, key_name, one_field, eval, evals, act, in_scope, at_return, all_values, call_value}
 use Rattle.swc_ast.specs.Call.{at_call, call_at, invoke, run_function, bind_params}
 use Rattle.meaning_proofs.specs.Exact.{Refined, Exact}
 use Rattle.dce_rules.specs.Shakes.{NamesOnly, no_property, short, key_and_name, object_call}

@@ -12,7 +12,7 @@ use Rattle.tree_walk.specs.Walks as walk
 use Rattle.tree_walk.specs.Walks.{Walks, Entered, ListMade, Whole, AllWalk, nothing, both}
 use Rattle.dce_rules.specs.Apart.{declared_apart, is_of, has_function}
 use Rattle.dce_rules.specs.Shakes as rules
-use Rattle.dce_rules.specs.Shakes.{Shaker, Opens, Shakes, ItemGoes, item_goes, Drops, items_go, shake_pass}
+use Rattle.dce_rules.specs.Shakes.{Shaker, Opens, Shakes, ItemGoes, items_go, shake_pass}
 use Rattle.dce_proofs.specs.Laws.{Knows}
 use Rattle.dce_proofs.proofs.Reached.{reached_stays}
 

@@ -2,7 +2,7 @@
 use Rattle.std.specs.Prelude.{IfSome}
 use Rattle.std.proofs.Common.{◌≡◌, ℕ, Bool, false, Option, Some, None, sym, ap, ◌∙◌, subst}
 use Rattle.swc_ast.specs.Tree as tree
-use Rattle.swc_ast.specs.Tree.{Name, Tree, node, ε, ◌⊳◌}
+use Rattle.swc_ast.specs.Tree.{Name, Tree, node, ε}
 use Rattle.swc_ast.specs.Meaning.{is_unresolved}
 use Rattle.swc_ast.specs.declared.BinaryOp.{BinaryOp}
 use Rattle.expr_rules.specs.Comparisons.{beside_itself, text_beside_itself}

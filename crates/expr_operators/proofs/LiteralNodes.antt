@@ -1,7 +1,7 @@
 -- Number literals and spans at nodes whose label is told by their parts.
 use Rattle.std.proofs.Common.{◌≡◌, Bool, true, false, if◌then◌else◌, List, ◌∷◌, Some, None, refl}
 use Rattle.swc_ast.specs.Tree as tree
-use Rattle.swc_ast.specs.Tree.{Name, Tree, node, Forest, ε, ◌⊳◌}
+use Rattle.swc_ast.specs.Tree.{Name, Tree, node, Forest, ◌⊳◌}
 use Rattle.swc_ast.specs.Expressions.{is_eval, unary_node, call_node, update_node, assign_node, member_node, member_tree}
 use Rattle.swc_ast.specs.Redex.{span_of}
 use Rattle.swc_ast.specs.Views.{expr_tree}

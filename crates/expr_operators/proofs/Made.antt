@@ -1,6 +1,6 @@
 -- The trees of the expressions that folds make.
 use Rattle.std.proofs.Common.{◌≡◌, ℕ, ℤ, List, Option, Some, None, codes, sym, ap, ◌∙◌}
-use Rattle.swc_ast.specs.Tree.{NumLit, Read, Tree, node, ε}
+use Rattle.swc_ast.specs.Tree.{NumLit, Read, node, ε}
 use Rattle.swc_ast.specs.declared.Span.{Span}
 use Rattle.swc_utils.specs.Sound.{numeric}
 use Rattle.pass_rules.specs.Leaves.{number_tree}

@@ -2,7 +2,7 @@
 use Rattle.std.proofs.Common.{◌≡◌, ℕ, zero, suc, ◌*◌, ◌/◌, ◌%◌, ◌^◌, ℤ, pos, negsuc, ◌+ℤ◌, ◌-ℤ◌, Bool, true, false, not, ◌&&◌, ◌||◌, ◌==◌, nat_abs, nat_le, if◌then◌else◌, List, Option, Some, None, refl, sym, ap, ◌∙◌}
 use Rattle.std.proofs.lemmas.Bool.{or_from}
 use Rattle.swc_ast.specs.Tree as tree
-use Rattle.swc_ast.specs.Tree.{Tree, node, Forest, ε, ◌⊳◌}
+use Rattle.swc_ast.specs.Tree.{Tree, node, Forest}
 use Rattle.swc_ast.specs.Operators.{Numeric, NotANumber, Whole, greatest, core_number, nonzero_sign, is_negative, is_odd, xor, quotient, remainder, power, power_of, number_value, binary_prim, binary_value}
 use Rattle.swc_ast.specs.Redex.{is_number, is_simple_literal, folds_numbers, divides_by_zero, admitted, number_of, number_redex, binary_redex}
 use Rattle.swc_ast.specs.Value.{Value, Num}

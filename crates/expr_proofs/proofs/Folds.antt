@@ -6,14 +6,14 @@ use Rattle.swc_ast.specs.declared.UnaryOp.TheVariants.{Plus, Tilde, Void}
 use Rattle.swc_ast.specs.declared.BinaryOp.TheVariants.{Add}
 use Rattle.swc_ast.specs.declared.Span.{Span}
 use Rattle.swc_ast.specs.Tree.{Cond, Unary, Binary, Tree, node, ε, ◌⊳◌}
-use Rattle.swc_ast.specs.Value.{Value, Undefined, NaN, Num, Text, Run, and_then, Context}
+use Rattle.swc_ast.specs.Value.{Value, Undefined, Num, Text, Run, and_then, Context}
 use Rattle.swc_ast.specs.Meaning.{gives, in_core, Caller, in_turn, compute, operate, act, eval, evals}
-use Rattle.swc_ast.specs.Operators.{Prim, prim, to_number, to_text, Numeric, Whole, number_value, both, arith, core_number, joined, is_text, plus, unary_value, on_number, as_i32, to_u32, binary_prim}
+use Rattle.swc_ast.specs.Operators.{prim, to_number, to_text, Numeric, Whole, number_value, both, arith, core_number, joined, is_text, plus, unary_value, on_number, as_i32, to_u32, binary_prim}
 use Rattle.swc_ast.specs.Call.{call_at}
 use Rattle.meaning_proofs.specs.Exact.{Exact}
 use Rattle.swc_utils.specs.Pure.{pure}
 use Rattle.swc_utils.specs.Known.{truth, number, text, joined_texts}
-use Rattle.swc_utils.specs.Types.{type_of, value_type, is_text_type, plus_type, is_number_like}
+use Rattle.swc_utils.specs.Types.{type_of, is_text_type, plus_type, is_number_like}
 use Rattle.swc_utils.specs.declared.answers.ValueType.{ValueType}
 use Rattle.swc_utils.specs.declared.answers.ValueType.TheVariants.{Str as TextType, Num as NumberType}
 use Rattle.swc_utils.specs.Holds.{Is, HasNumber, HasText, Yields}

@@ -7,7 +7,7 @@ use Rattle.swc_ast.specs.declared.UnaryOp.TheVariants.{TypeOf}
 use Rattle.swc_ast.specs.declared.Span.{Span}
 use Rattle.swc_ast.specs.Tree.{Name, NumLit, StrLit, Read, TypeOfName, Dot, Index, Tree, node, Forest, ε, ◌⊳◌}
 use Rattle.swc_ast.specs.Value.{Value, Undefined, Null, NaN, TypeError, ScriptThis, Truth, Num, Text, Items, Record, Function, Token, TypeOf as TypeOfEvent, Run, and_then}
-use Rattle.swc_ast.specs.Meaning.{◌>>=◌, in_core, ask, checked_type, is_unresolved, read, type_of_name, get, get_at, in_turn, act, eval, evals}
+use Rattle.swc_ast.specs.Meaning.{◌>>=◌, in_core, ask, checked_type, is_unresolved, read, type_of_name, get, get_at, act, eval, evals}
 use Rattle.swc_ast.specs.Operators.{unary_value, type_name}
 use Rattle.meaning_proofs.specs.Exact.{Exact}
 use Rattle.swc_utils.specs.Globals.{name_value}
@@ -15,7 +15,7 @@ use Rattle.swc_utils.specs.Holds.{Is, Yields}
 use Rattle.swc_utils.proofs.Ends.{yields_then, yields_gives}
 use Rattle.swc_utils.proofs.Known.{yields0, literal_gives, constant_pure}
 use Rattle.swc_utils.proofs.Refines.{refines_same, refines_then}
-use Rattle.pass_rules.specs.Leaves.{text_tree, guarded, key_text_of}
+use Rattle.pass_rules.specs.Leaves.{text_tree, key_text_of}
 use Rattle.pass_proofs.proofs.Refines.{refines_path}
 use Rattle.expr_proofs.proofs.Folds.{pure_constant, text_gives}
 

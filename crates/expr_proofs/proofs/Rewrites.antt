@@ -6,7 +6,7 @@ use Rattle.swc_ast.specs.declared.BinaryOp.{BinaryOp}
 use Rattle.swc_ast.specs.declared.BinaryOp.TheVariants.{LShift, RShift, ZeroFillRShift, Sub, Mul, Div, Mod, Exp, BitOr, BitXor, BitAnd, LogicalOr, LogicalAnd}
 use Rattle.swc_ast.specs.declared.Span.{Span}
 use Rattle.swc_ast.specs.Tree.{Name, Seq, Binary, Tree, node, ε, ◌⊳◌}
-use Rattle.swc_ast.specs.Value.{Value, NaN, Num, Truth, State, Done, Run, Context}
+use Rattle.swc_ast.specs.Value.{Value, NaN, Num, State, Done, Run, Context}
 use Rattle.swc_ast.specs.Meaning.{◌>>=◌, gives, in_core, read, read_bound, Caller, in_turn, compute, operate, shortened, act, eval, evals}
 use Rattle.swc_ast.specs.Operators.{Prim, undefined, null, object, truth as truth_of, num, text as text_of, prim, truthy, to_number, prim_number, Numeric, NotANumber, Whole, number_value, both, on_numbers, is_object, same_primitive, strict_equal, binary_prim, binary_value}
 use Rattle.swc_ast.specs.Call.{call_at}
@@ -20,7 +20,7 @@ use Rattle.swc_utils.proofs.Ends.{keeps_yields}
 use Rattle.swc_utils.proofs.Pure.{pure_is_still}
 use Rattle.swc_utils.proofs.Known.{truth_holds, number_holds, number_pure, of_value_some}
 use Rattle.swc_utils.proofs.Refines.{refines_drop}
-use Rattle.pass_rules.specs.Leaves.{number_tree, truth_tree}
+use Rattle.pass_rules.specs.Leaves.{number_tree}
 use Rattle.expr_rules.specs.Arithmetic.{as_numeric, divides, is_zero, computed, fold_numbers}
 use Rattle.expr_rules.specs.Choices.{chosen_side, decided, is_logical}
 use Rattle.pass_proofs.proofs.Truths.{truth_keeps}

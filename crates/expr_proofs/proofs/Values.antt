@@ -1,5 +1,5 @@
 -- Operators on known values are exact.
-use Rattle.std.proofs.Common.{◌≡◌, ℕ, Bool, true, List, Option, Some, None, refl, sym, ap, ap₂, subst, ◌∙◌, IfSome}
+use Rattle.std.proofs.Common.{◌≡◌, ℕ, true, List, Option, Some, None, refl, sym, ap, ap₂, subst, ◌∙◌, IfSome}
 use Rattle.std.proofs.lemmas.Bool.{false≢true}
 use Rattle.std.proofs.lemmas.Option.{none-some, same_Some}
 use Rattle.swc_ast.specs.declared.Span.{Span}
@@ -8,24 +8,18 @@ use Rattle.swc_ast.specs.declared.UnaryOp.TheVariants.{TypeOf, Delete}
 use Rattle.swc_ast.specs.declared.BinaryOp.{BinaryOp}
 use Rattle.swc_ast.specs.declared.BinaryOp.TheVariants.{LogicalOr, LogicalAnd, In, InstanceOf, NullishCoalescing}
 use Rattle.swc_ast.specs.Tree.{Array, Object, Fn, Arrow, Unary, Binary, Tree, node, ε, ◌⊳◌}
-use Rattle.swc_ast.specs.Value.{Value, Undefined, Null, Truth, Text, Run, Context}
+use Rattle.swc_ast.specs.Value.{Value, Undefined, Text, Run, Context}
 use Rattle.swc_ast.specs.Meaning.{◌>>=◌, gives, leaves, in_core, Caller, run_all, compute, operate, act, eval, evals}
-use Rattle.swc_ast.specs.Operators.{truthy, Numeric, type_name, unary_value, binary_prim, binary_value}
+use Rattle.swc_ast.specs.Operators.{type_name, unary_value, binary_prim, binary_value}
 use Rattle.swc_ast.specs.Call.{call_at}
 use Rattle.meaning_proofs.specs.Exact.{Refines, Exact}
-use Rattle.swc_utils.specs.Known.{truth, number, text}
-use Rattle.swc_utils.specs.Types.{type_of, value_type}
-use Rattle.swc_utils.specs.declared.answers.ValueType.{ValueType}
-use Rattle.swc_utils.specs.declared.answers.ValueType.TheVariants.{Undefined as UndefinedType, Null as NullType, Bool as TruthType, Num as NumberType, Str as TextType, Obj as ObjectType}
 use Rattle.swc_utils.specs.Effects.{is_strict, has_no_meaning, effects, effects_all, preserve}
 use Rattle.swc_utils.specs.Holds.{Is, Yields}
-use Rattle.swc_utils.proofs.Ends.{yields_then, yields_gives, yields_leaves, yields_map, yields_both, yields_in_core, any}
-use Rattle.swc_utils.proofs.Known.{truth_holds, number_holds, text_holds}
-use Rattle.swc_utils.proofs.Typed.{type_holds}
+use Rattle.swc_utils.proofs.Ends.{yields_then, yields_gives, yields_leaves, yields_map, yields_in_core, any}
 use Rattle.swc_utils.proofs.Refines.{refines_same, refines_then, refines_trans, refines_chain, refines_leaves}
 use Rattle.swc_utils.proofs.RunEffects.{all_kept}
 use Rattle.swc_utils.proofs.Preserved.{preserve_kept}
-use Rattle.pass_rules.specs.Values.{number_of, text_value, truth_of_known, value_by_type, value_of}
+use Rattle.pass_rules.specs.Values.{value_of}
 use Rattle.expr_rules.specs.TypeNames.{name_of, typeof_known}
 use Rattle.pass_rules.specs.Leaves.{text_tree}
 use Rattle.pass_proofs.proofs.Refines.{refines_path}

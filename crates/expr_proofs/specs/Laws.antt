@@ -3,7 +3,7 @@ use Rattle.std.specs.Prelude.{ℕ, Bool, true, false, ◌<◌, ◌≡◌, List}
 use Rattle.swc_ast.specs.declared.Span.{Span}
 use Rattle.swc_ast.specs.declared.UnaryOp.{UnaryOp}
 use Rattle.swc_ast.specs.declared.BinaryOp.{BinaryOp}
-use Rattle.swc_ast.specs.Tree.{Name, Label, Read, Unary, Binary, Cond, Seq, Dot, Index, Tree, node, Forest, ε, ◌⊳◌, label_of}
+use Rattle.swc_ast.specs.Tree.{Name, Unary, Binary, Cond, Seq, Tree, node, ε, ◌⊳◌, label_of}
 use Rattle.swc_ast.specs.Redex.{is_zero, is_simple_literal, binary_redex, unary_redex}
 use Rattle.swc_ast.specs.Weight.{weight}
 use Rattle.meaning_proofs.specs.Exact.{Exact}

@@ -10,7 +10,7 @@ use Rattle.swc_utils.specs.Known.{number}
 use Rattle.swc_utils.specs.Pure.{pure}
 use Rattle.swc_utils.specs.Types.{same_type, type_of}
 use Rattle.swc_utils.specs.declared.answers.ValueType.{ValueType}
-use Rattle.swc_utils.specs.declared.answers.ValueType.TheVariants.{Bool as TruthType, Null as NullType, Obj as ObjectType, Undefined as UndefinedType}
+use Rattle.swc_utils.specs.declared.answers.ValueType.TheVariants.{Bool as TruthType, Obj as ObjectType}
 use Rattle.pass_rules.specs.Values.{is_nullish_type, value_of}
 
 -- `==`, `!=`, `===` and `!==`

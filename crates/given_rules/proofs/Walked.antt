@@ -8,7 +8,7 @@ use Rattle.swc_ast.specs.Expressions.{is_eval, call_node, unary_node}
 use Rattle.swc_ast.specs.Tree as tree
 use Rattle.swc_ast.specs.Tree.{Name, Label, Tree, node, Forest, ε, ◌⊳◌}
 use Rattle.tree_put.specs.Put as walk
-use Rattle.tree_put.specs.Put.{chosen, expanded, under, in_turn, steps, behind as behind_first}
+use Rattle.tree_put.specs.Put.{chosen, expanded, under, in_turn, steps}
 use Rattle.tree_put.specs.Puts.{Answer}
 use Rattle.tree_put.specs.Still.{still}
 use Rattle.tree_put.specs.declared.rules.Spot.{Spot}

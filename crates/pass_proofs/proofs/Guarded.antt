@@ -1,5 +1,5 @@
 -- `(0, e)` is e.
-use Rattle.std.proofs.Common.{ℕ, List, refl}
+use Rattle.std.proofs.Common.{ℕ, List}
 use Rattle.swc_ast.specs.declared.Span.{Span}
 use Rattle.swc_ast.specs.Tree.{Tree}
 use Rattle.swc_ast.specs.Value.{and_then}

@@ -1,6 +1,6 @@
 -- That no `var` name goes, neither inside a tree nor of a module's or a script's own body.
-use Rattle.std.specs.Prelude.{Bool, true, false, List, []}
-use Rattle.swc_ast.specs.Tree.{Name, Label, Module, Script, Tree, node}
+use Rattle.std.specs.Prelude.{List, []}
+use Rattle.swc_ast.specs.Tree.{Name, Module, Script, Tree, node}
 use Rattle.swc_ast.specs.Scope.{vars, vars_all}
 use Rattle.static_proofs.specs.Names.{Within}
 

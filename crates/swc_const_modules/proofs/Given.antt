@@ -1,6 +1,5 @@
 -- What is read of given texts, module by module.
-use Rattle.std.proofs.Common.{◌≡◌, ◌⊎◌, inl, inr, ℕ, Bool, true, false, ◌||◌, cond, List, [], ◌∷◌, bytes_eq, Option, Some, None, is_some, string_bytes, refl, sym, ap, subst, ◌∙◌}
-use Rattle.std.proofs.lemmas.Bool.{false≢true}
+use Rattle.std.proofs.Common.{◌≡◌, ◌⊎◌, inl, inr, Bool, true, false, ◌||◌, cond, List, [], ◌∷◌, bytes_eq, Option, Some, None, is_some, string_bytes, refl, sym, ap, subst, ◌∙◌}
 use Rattle.std.proofs.lemmas.Slice.Eq.{bytes_eq-Decides}
 use Rattle.std.specs.BTreeMap.{BTreeMap, get_by_text, UpdatesBy}
 use Rattle.std.specs.Cmp.Lexicographic.{slice_cmp}
@@ -13,7 +12,6 @@ use Rattle.swc_ast.specs.declared.errors.PassError.{PassError}
 use Rattle.swc_ast.specs.declared.errors.PassError.TheVariants as error
 use Rattle.swc_ast.specs.declared.expressions.Expr.{Expr}
 use Rattle.const_imports.specs.Views.{in_exports}
-use Rattle.const_imports.specs.declared.given.GivenModules.{GivenModules}
 use Rattle.swc_const_modules.specs.Texts.{Texts, AllTexts, Names, NamesOne, IsUnreadable, SameExports, GivesAll}
 use Rattle.swc_const_modules.proofs.Maps.{at_text, added, first, key_there}
 

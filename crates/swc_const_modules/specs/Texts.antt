@@ -1,5 +1,5 @@
 -- The texts that are given, and what is made of them.
-use Rattle.std.specs.Prelude.{◌≡◌, true, Option, Some, None, is_some, string_bytes}
+use Rattle.std.specs.Prelude.{◌≡◌, true, is_some, string_bytes}
 use Rattle.std.specs.BTreeMap.{BTreeMap, get_by_text}
 use Rattle.std.specs.declared.alloc.Global.{Global}
 use Rattle.std.specs.declared.string.String.{String}

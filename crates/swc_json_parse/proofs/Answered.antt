@@ -1,12 +1,11 @@
 -- What the pass answers, by what the walk made.
-use Rattle.std.proofs.Common.{◌≡◌, ℕ, Bool, true, false, Option, Some, None, Result, Ok, Err, IfOk, OnOk, refl, sym, ap, subst, ◌∙◌}
+use Rattle.std.proofs.Common.{◌≡◌, ℕ, Bool, true, Option, Some, None, Result, Ok, Err, IfOk, OnOk, sym, ap, subst, ◌∙◌}
 use Rattle.swc_ast.specs.Core.{IsCore}
 use Rattle.swc_ast.specs.Resolved.{IsResolved}
 use Rattle.swc_ast.specs.Tree.{Tree}
 use Rattle.swc_ast.specs.Valid.{valid}
 use Rattle.swc_pass.specs.Chain.{GivesBack, input, other}
-use Rattle.swc_pass.specs.Pass.{SameBare, TellsChange}
-use Rattle.tree_put.specs.Put.{put}
+use Rattle.swc_pass.specs.Pass.{SameBare}
 use Rattle.tree_put.specs.Still.{still}
 use Rattle.tree_put.specs.Walks.{Makes}
 use Rattle.tree_put.specs.declared.rules.Spot.TheVariants.{Here}

@@ -1,5 +1,5 @@
 -- The call in a literal's place, and where literals stand.
-use Rattle.std.proofs.Common.{◌≡◌, ℕ, Bool, true, false, ◌||◌, ◌==◌, List, [], ◌∷◌, Option, Some, None, String, codes, string_bytes, if◌then◌else◌, refl, sym, ap, ap₂, ◌∙◌}
+use Rattle.std.proofs.Common.{◌≡◌, ℕ, Bool, false, ◌||◌, ◌==◌, List, [], ◌∷◌, Some, None, String, codes, string_bytes, refl, sym, ap, ap₂, ◌∙◌}
 use Rattle.std.proofs.lemmas.Bool.{false≢true}
 use Rattle.std.specs.declared.alloc.Global.{Global}
 use Rattle.std.specs.declared.boxed.Box.{Box}
@@ -7,7 +7,7 @@ use Rattle.std.specs.declared.vec.Vec.{Vec}
 use Rattle.swc_ast.specs.Expressions.{call_node}
 use Rattle.swc_ast.specs.Parts.{list_trees}
 use Rattle.swc_ast.specs.Tree as tree
-use Rattle.swc_ast.specs.Tree.{Tree, node, Forest, ε, ◌⊳◌, label_of}
+use Rattle.swc_ast.specs.Tree.{Tree, node, ε, ◌⊳◌, label_of}
 use Rattle.swc_ast.specs.Views.{expr_tree}
 use Rattle.swc_ast.proofs.ApartExpressions.{ExprForm, expr_form, expr_at}
 use Rattle.swc_ast.proofs.Equations.{expr_tree-Array, expr_tree-Object, expr_tree-Call, expr_tree-Member, expr_tree-Ident, expr_tree-Lit}
@@ -22,7 +22,7 @@ use Rattle.swc_ast.specs.declared.expressions.ObjectLit.{ObjectLit}
 use Rattle.swc_ast.specs.declared.expressions.PropOrSpread.{PropOrSpread}
 use Rattle.swc_ast.specs.declared.literals.Lit.TheVariants as lit
 use Rattle.swc_ast.specs.declared.names.SyntaxContext.{SyntaxContext}
-use Rattle.swc_json_parse.specs.Parsing.{nowhere, json_name, parse_call, is_list_literal, first_span, literal_span}
+use Rattle.swc_json_parse.specs.Parsing.{nowhere, json_name, parse_call, literal_span}
 
 pub array_span : (e : Expr) (n : ArrayLit Expr) → e ≡ in_expr.Array n → Some n.span ≡ literal_span (expr_tree e)
 array_span e n is = sym (ap (λ x. literal_span (expr_tree x)) is ∙ ap literal_span (expr_tree-Array n))

@@ -1,12 +1,12 @@
 -- What the walk does at a literal, by its text.
-use Rattle.std.proofs.Common.{◌≡◌, ◌≢◌, ℕ, suc, ◌+◌, ◌-◌, ◌<◌, ◌≤◌, ◌^◌, Bool, true, false, nat_le, nat_lt, length, if◌then◌else◌, Option, Some, None, option_map, option_and_then, inl, inr, ◌++◌, string_bytes, refl, sym, ap, ap₂, ◌∙◌, arith}
+use Rattle.std.proofs.Common.{◌≡◌, ℕ, suc, ◌+◌, ◌-◌, ◌<◌, ◌≤◌, ◌^◌, Bool, true, false, nat_le, nat_lt, length, if◌then◌else◌, Option, Some, None, option_map, option_and_then, inl, inr, ◌++◌, string_bytes, refl, sym, ap, ap₂, ◌∙◌, arith}
 use Rattle.std.proofs.lemmas.Bool.Decides.{leb_tells}
 use Rattle.serde_json.specs.Data.{Data, depth}
 use Rattle.serde_json.specs.Read.{max_depth}
 use Rattle.serde_json.specs.Written.{compact_text}
 use Rattle.swc_ast.specs.Tree.{Text, Tree}
 use Rattle.swc_ast.specs.declared.Span.{Span}
-use Rattle.tree_put.specs.Puts.{Answer, enter, stay, become}
+use Rattle.tree_put.specs.Puts.{enter, stay, become}
 use Rattle.swc_json_parse.specs.JsonText.{data_of, shallow, json_text}
 use Rattle.swc_json_parse.specs.Parsing.{parse_call}
 use Rattle.swc_json_parse.specs.Quick.{quick_call}

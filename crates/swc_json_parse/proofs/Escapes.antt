@@ -1,5 +1,5 @@
 -- How many bytes stand in quotes for those of a text.
-use Rattle.std.proofs.Common.{◌≡◌, ℕ, suc, inl, inr, ◌<◌, ◌≤◌, ◌+◌, ◌/◌, ◌%◌, length, Bool, true, false, nat_lt, cond, refl, sym, ap, ◌∙◌, List, [], ◌∷◌, ◌++◌, drop, get_or, arith}
+use Rattle.std.proofs.Common.{◌≡◌, ℕ, suc, inl, inr, ◌<◌, ◌≤◌, ◌+◌, ◌/◌, ◌%◌, length, Bool, true, false, nat_lt, cond, sym, ap, ◌∙◌, List, [], ◌∷◌, ◌++◌, drop, get_or, arith}
 use Rattle.std.proofs.lemmas.List.{at_drop_more, at_drop_all, length-append}
 use Rattle.std.proofs.lemmas.Bool.Decides.{leb_tells}
 use Rattle.std.specs.Char.{digit_char}

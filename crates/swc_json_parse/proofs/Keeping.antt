@@ -1,5 +1,5 @@
 -- What the walk makes of a tree is resolved, valid and core where the tree is.
-use Rattle.std.proofs.Common.{◌≡◌, ℕ, Bool, true, false, ◌&&◌, if◌then◌else◌, List, [], ◌∷◌, Option, Some, None, refl, sym, ap, subst, ◌∙◌, ◌++◌}
+use Rattle.std.proofs.Common.{◌≡◌, ℕ, Bool, true, false, ◌&&◌, if◌then◌else◌, List, [], ◌∷◌, Option, Some, None, refl, sym, ap, subst}
 use Rattle.std.proofs.lemmas.Bool.{false≢true, and_parts}
 use Rattle.swc_ast.specs.Labels.{is_expression}
 use Rattle.swc_ast.specs.Core.{fits, IsCore}
@@ -12,7 +12,7 @@ use Rattle.swc_ast.specs.Tree.{Text, Name, Label, Tree, node, Forest, ε, ◌⊳
 use Rattle.swc_ast.specs.Valid.{valid, valid_all, good_names, good_shape, is_word, is_identifier}
 use Rattle.swc_ast.specs.declared.Span.{Span}
 use Rattle.swc_ast.specs.declared.UnaryOp.TheVariants as op
-use Rattle.static_proofs.specs.Drawn.{Drawn, AllDrawn, nothing_of, all_of, part_of, none_drawn, more_drawn}
+use Rattle.static_proofs.specs.Drawn.{AllDrawn, nothing_of, all_of, part_of, none_drawn, more_drawn}
 use Rattle.static_proofs.specs.Keeps.{Keeps}
 use Rattle.static_proofs.specs.Names.{Within}
 use Rattle.static_proofs.specs.Over.{Makes, Over, over_none, over_piece, over_made}
@@ -28,7 +28,7 @@ use Rattle.static_proofs.proofs.Walked.{walks_itself}
 use Rattle.static_proofs.proofs.Whole.{resolved_kept, core_kept}
 use Rattle.tree_put.specs.Put as put
 use Rattle.tree_put.specs.Put.{Step, steps, around, in_turn, chosen}
-use Rattle.tree_put.specs.Puts.{Answer, enter, stay, become}
+use Rattle.tree_put.specs.Puts.{enter, become}
 use Rattle.tree_put.specs.Still.{still}
 use Rattle.tree_put.specs.declared.rules.Spot.{Spot}
 use Rattle.tree_put.specs.declared.rules.Spot.TheVariants as spot

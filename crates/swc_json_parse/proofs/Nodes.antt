@@ -1,5 +1,5 @@
 -- What nodes are as JSON: those that are no literals, members, literals and templates.
-use Rattle.std.proofs.Common.{◌≡◌, ℕ, suc, ◌<◌, ◌≤◌, ◌^◌, pos, negsuc, ℤ, Bool, true, false, ◌||◌, ◌==◌, nat_le, nat_lt, nat_eq, List, [], ◌∷◌, map, length, get_or, ◌++◌, if◌then◌else◌, Option, Some, None, option_map, option_and_then, inl, inr, refl, sym, ap, ◌∙◌, string_bytes, arith}
+use Rattle.std.proofs.Common.{◌≡◌, ℕ, suc, ◌<◌, ◌^◌, pos, negsuc, ℤ, Bool, true, false, ◌||◌, ◌==◌, nat_le, nat_lt, List, [], ◌∷◌, map, length, get_or, ◌++◌, if◌then◌else◌, Option, Some, None, option_map, option_and_then, inl, inr, refl, sym, ap, ◌∙◌, string_bytes, arith}
 use Rattle.std.proofs.lemmas.Bool.{false≢true}
 use Rattle.std.proofs.lemmas.Bool.Decides.{leb_tells, eqb_tells}
 use Rattle.std.proofs.lemmas.Int.{ints}
@@ -7,16 +7,16 @@ use Rattle.std.specs.Prelude.{FitsSigned}
 use Rattle.std.proofs.Common.{w64}
 use Rattle.std.specs.Fmt.{signed_decimal}
 use Rattle.json.specs.Print.{quoted}
-use Rattle.serde_json.specs.Data.{Data, Num, unsigned, negative, number, depth}
+use Rattle.serde_json.specs.Data.{Num, unsigned, negative, number, depth}
 use Rattle.serde_json.specs.Written.{compact_text}
 use Rattle.swc_ast.specs.Tree as tree
-use Rattle.swc_ast.specs.Tree.{Name, Text, Tree, node, Forest, ε, ◌⊳◌, label_of}
+use Rattle.swc_ast.specs.Tree.{Text, Tree, node, Forest, label_of}
 use Rattle.swc_ast.specs.Expressions.{key_value_tree, array_tree, object_tree, tpl_tree, quasi_text}
 use Rattle.swc_ast.proofs.Equations.{expr_tree-Lit, expr_tree-Tpl, expr_tree-Array, expr_tree-Object, prop_or_spread_tree-Spread, prop_or_spread_tree-Prop, prop_tree-KeyValue, prop_tree-Shorthand, prop_tree-Method, method_tree-is}
 use Rattle.swc_ast.specs.Parts.{lit_tree, list_trees}
 use Rattle.swc_ast.specs.declared.Span.{Span}
 use Rattle.swc_ast.specs.Views.{expr_tree, prop_tree, prop_or_spread_tree}
-use Rattle.swc_ast.proofs.ApartExpressions.{ExprForm, expr_form, expr_number, expr_at}
+use Rattle.swc_ast.proofs.ApartExpressions.{ExprForm, expr_form, expr_at}
 use Rattle.swc_ast.specs.declared.declarations.Decl.TheOpen as Open
 use Rattle.swc_ast.specs.declared.declarations.Decl.TheViews.{roll-Expr, out-Expr, roll-out-Expr}
 use Rattle.swc_ast.specs.declared.expressions.ArrayLit.{ArrayLit}

@@ -1,5 +1,5 @@
 -- The walk that leaves literals whose texts are too short makes the same of a tree.
-use Rattle.std.proofs.Common.{◌≡◌, ℕ, ◌+◌, ◌<◌, ◌≤◌, ◌^◌, Bool, true, false, ◌&&◌, nat_le, nat_lt, List, [], ◌∷◌, length, if◌then◌else◌, Option, Some, None, option_map, option_and_then, inl, inr, refl, sym, ap, ap₂, ◌∙◌, ◌⊎◌, arith}
+use Rattle.std.proofs.Common.{◌≡◌, ℕ, ◌+◌, ◌<◌, ◌^◌, Bool, true, false, ◌&&◌, nat_le, nat_lt, List, [], ◌∷◌, length, if◌then◌else◌, Option, Some, None, option_map, option_and_then, inl, inr, refl, sym, ap, ap₂, ◌∙◌, arith}
 use Rattle.std.proofs.lemmas.Bool.{false≢true}
 use Rattle.std.proofs.lemmas.Bool.Decides.{leb_tells}
 use mathlib.Core.Path.{fun_ext}
@@ -17,7 +17,7 @@ use Rattle.tree_put.specs.Still.{still, put_still}
 use Rattle.tree_put.specs.declared.rules.Spot.TheVariants as spot
 use Rattle.tree_put.specs.declared.rules.Spot.{Spot}
 use Rattle.swc_json_parse.specs.JsonText.{data_of, shallow, json_text}
-use Rattle.swc_json_parse.specs.Parsing.{literal_span, call_for, is_long, parse_call, parsing, parsed}
+use Rattle.swc_json_parse.specs.Parsing.{literal_span, call_for, parse_call, parsing, parsed}
 use Rattle.swc_json_parse.specs.Quick.{quick_call, quick}
 use Rattle.swc_json_parse.proofs.Settled.{parts_stay}
 

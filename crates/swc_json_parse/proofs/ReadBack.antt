@@ -18,9 +18,8 @@ use Rattle.swc_ast.specs.Meaning.{key_name}
 use Rattle.swc_ast.specs.Tree as tree_of
 use Rattle.swc_ast.specs.Tree.{Text, KeyValue, PlainKey, Tree, node, Forest, ε, ◌⊳◌}
 use Rattle.tree_keys.specs.Keys.{are_keys, keys_of}
-use Rattle.swc_json_parse.specs.JsonText.{whole, all_plain, data_of, items_of, members_of, shallow, json_text, in_order, items_in_order, members_in_order, TextsReadBack}
+use Rattle.swc_json_parse.specs.JsonText.{whole, all_plain, data_of, items_of, members_of, shallow, in_order, items_in_order, members_in_order, TextsReadBack}
 use Rattle.swc_json_parse.proofs.Settled.{parts_of, part_of, none_some}
-use Rattle.swc_json_parse.proofs.QuickSame.{data_at}
 
 -- numbers that 64 bits hold with their sign
 abbrev pub IsSmall : Num → Type 0

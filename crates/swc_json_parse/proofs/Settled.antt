@@ -1,9 +1,9 @@
 -- A literal whose text is too short stays as it is, and so does all that is in it.
-use Rattle.std.proofs.Common.{◌≡◌, ℕ, ℤ, suc, ◌+◌, ◌<◌, ◌≤◌, ◌^◌, Bool, true, false, ◌&&◌, nat_le, nat_lt, List, [], ◌∷◌, ◌++◌, length, if◌then◌else◌, Option, Some, None, option_map, option_and_then, inl, inr, refl, sym, ap, ◌∙◌, arith}
+use Rattle.std.proofs.Common.{◌≡◌, ℕ, ℤ, suc, ◌+◌, ◌<◌, ◌^◌, Bool, true, false, ◌&&◌, nat_le, nat_lt, List, [], ◌∷◌, ◌++◌, length, if◌then◌else◌, Option, Some, None, option_map, option_and_then, inl, inr, refl, sym, ap, ◌∙◌, arith}
 use Rattle.std.proofs.lemmas.List.{length-append}
 use Rattle.std.proofs.lemmas.Bool.Decides.{leb_tells}
 use Rattle.json.specs.Print.{quoted}
-use Rattle.serde_json.specs.Data.{Data, array, object, Items, no_items, item, Members, no_members, member, depth}
+use Rattle.serde_json.specs.Data.{Data, array, object, Items, item, Members, member, depth}
 use Rattle.serde_json.specs.Read.{max_depth}
 use Rattle.serde_json.specs.Written.{compact_text, items_text, members_text, comma_if}
 use Rattle.swc_ast.specs.Labels.{is_expression}
@@ -12,13 +12,13 @@ use Rattle.swc_ast.specs.Tree as tree
 use Rattle.swc_ast.specs.Tree.{Text, KeyValue, PlainKey, Tree, node, Forest, ε, ◌⊳◌, label_of}
 use Rattle.swc_ast.specs.declared.Span.{Span}
 use Rattle.tree_put.specs.Put.{put, put_parts, steps, around, in_turn, under, chosen}
-use Rattle.tree_put.specs.Puts.{Answer, enter, become}
+use Rattle.tree_put.specs.Puts.{enter, become}
 use Rattle.tree_put.specs.Still.{still}
 use Rattle.tree_put.specs.declared.rules.Spot.{Spot}
 use Rattle.tree_put.specs.declared.rules.Spot.TheVariants as spot
 use Rattle.tree_put.proofs.Putting.{asked}
 use Rattle.tree_keys.specs.Keys.{are_keys, keys_of}
-use Rattle.swc_json_parse.specs.JsonText.{data_of, items_of, members_of, all_plain, shallow, json_text}
+use Rattle.swc_json_parse.specs.JsonText.{data_of, items_of, members_of, all_plain, shallow}
 use Rattle.swc_json_parse.specs.Parsing.{literal_span, call_for, is_long, parse_call, parsing}
 
 -- two parts that there are, and what they make

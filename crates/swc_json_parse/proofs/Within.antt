@@ -2,13 +2,12 @@
 use Rattle.std.proofs.Common.{◌≡◌, ℕ, suc, max, ◌-◌, ◌<◌, ◌≤◌, Bool, true, false, ◌&&◌, nat_le, List, [], ◌∷◌, ◌++◌, map, if◌then◌else◌, Option, Some, None, option_map, option_and_then, inl, inr, refl, sym, ap, ap₂, ◌∙◌, append_assoc, arith}
 use Rattle.std.proofs.lemmas.Bool.Decides.{leb_tells}
 use Rattle.json.specs.Print.{quoted}
-use Rattle.serde_json.specs.Data.{Data, array, object, Items, no_items, item, Members, no_members, member, depth, items_depth, members_depth}
+use Rattle.serde_json.specs.Data.{Data, array, object, Items, item, Members, member, depth, items_depth, members_depth}
 use Rattle.serde_json.specs.Written.{compact_text, items_text, members_text, comma_if}
 use Rattle.swc_ast.specs.Expressions.{item_kind, spread_kind, item_trees, array_tree, object_tree}
 use Rattle.swc_ast.specs.Meaning.{key_name}
 use Rattle.swc_ast.specs.Parts.{list_trees}
-use Rattle.swc_ast.specs.Tree as tree
-use Rattle.swc_ast.specs.Tree.{Text, ItemKind, KeyValue, PlainKey, Tree, node, Forest, ε, ◌⊳◌}
+use Rattle.swc_ast.specs.Tree.{Text, KeyValue, PlainKey, Tree, node, Forest, ε, ◌⊳◌}
 use Rattle.swc_ast.specs.Views.{expr_tree, prop_or_spread_tree}
 use Rattle.swc_ast.specs.declared.expressions.ArrayLit.{ArrayLit}
 use Rattle.swc_ast.specs.declared.expressions.Expr.{Expr}

@@ -1,5 +1,5 @@
 -- The text of a JSON literal, and the value that it is.
-use Rattle.std.specs.Prelude.{ℕ, ℤ, pos, negsuc, suc, ◌^◌, ◌≡◌, nat_le, nat_lt, Bool, true, false, if◌then◌else◌, List, [], ◌∷◌, Option, Some, None, option_map, option_and_then}
+use Rattle.std.specs.Prelude.{ℤ, pos, negsuc, ◌^◌, ◌≡◌, nat_le, nat_lt, Bool, true, false, if◌then◌else◌, List, [], ◌∷◌, Option, Some, None, option_map, option_and_then}
 use Rattle.swc_ast.specs.Meaning.{key_name}
 use Rattle.swc_ast.specs.Tree.{Text, NumLit, StrLit, BoolLit, NullLit, Template, ItemKind, Plain, Array, Object, KeyValue, PlainKey, Tree, node, Forest, ε, ◌⊳◌}
 use Rattle.tree_keys.specs.Keys.{are_keys, keys_of}

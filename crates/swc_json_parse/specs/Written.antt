@@ -1,5 +1,5 @@
 -- What is known while a text is written, for private clauses.
-use Rattle.std.specs.Prelude.{ℕ, ℤ, ◌+◌, ◌^◌, ◌≡◌, nat_le, nat_lt, Bool, true, false, ◌&&◌, if◌then◌else◌, List, [], ◌∷◌, ◌++◌, map, Option, Some, None, option_map, option_and_then}
+use Rattle.std.specs.Prelude.{ℕ, ℤ, ◌+◌, ◌≡◌, nat_le, Bool, true, false, if◌then◌else◌, List, ◌∷◌, ◌++◌, map, Option, Some, None, option_map, option_and_then}
 use Rattle.json.specs.Print.{quoted}
 use Rattle.swc_ast.specs.Meaning.{key_name}
 use Rattle.swc_ast.specs.Parts.{lit_tree}
@@ -9,7 +9,7 @@ use Rattle.swc_ast.specs.declared.expressions.ExprOrSpread.{ExprOrSpread}
 use Rattle.swc_ast.specs.Expressions.{item_kind, item_trees}
 use Rattle.swc_ast.specs.Tree.{Text, KeyValue, PlainKey, Tree, node, Forest, ε, ◌⊳◌}
 use Rattle.swc_ast.specs.Views.{expr_tree}
-use Rattle.serde_json.specs.Data.{Data, number, Items, Members, depth, items_depth, members_depth}
+use Rattle.serde_json.specs.Data.{number, depth, items_depth, members_depth}
 use Rattle.serde_json.specs.Written.{compact_text, items_text, members_text}
 use Rattle.swc_json_parse.specs.JsonText.{whole, data_of, items_of, members_of, all_plain}
 

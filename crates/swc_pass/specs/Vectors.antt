@@ -2,7 +2,7 @@
 use Rattle.std.specs.Prelude.{ℕ, zero, pos, ◌≡◌, refl, true, false, if◌then◌else◌, List, [], ◌∷◌, Option, Some, None, bytes_eq, codes}
 use Rattle.swc_ast.specs.declared.VarDeclKind.TheVariants.{Let}
 use Rattle.swc_ast.specs.Tree.{Text, Name, NameKey, Label, NumLit, StrLit, Read, Object, KeyValue, Shorthand, PlainKey, Arrow, Params, TypeOfName, Dot, Index, Call, ExprStmt, VarDecl, Declarator, Module, Import, ImportNamed, ImportStar, ExportDecl, Tree, node, Forest, ε, ◌⊳◌}
-use Rattle.swc_ast.specs.Value.{Value, Undefined, Num, Text as TextValue, Record, Token, ∅, ◌▹◌, nofield, field, Load, Reads, TypeOf as TypeOfEvent, Gets, Calls, Event, Reply, Gives}
+use Rattle.swc_ast.specs.Value.{Value, Undefined, Num, Text as TextValue, Record, Token, ∅, nofield, field, Load, Reads, Gets, Calls, Event, Reply, Gives}
 use Rattle.swc_ast.specs.Run.{World, Observed, Sees, LeftCore, Ending, Finished, Datum}
 use Rattle.swc_pass.specs.Given.{Answers, observe_given}
 use Rattle.swc_pass.specs.Inlined.{inlined}

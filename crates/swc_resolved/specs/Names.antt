@@ -3,7 +3,7 @@ use Rattle.std.specs.Prelude.{ℕ, Bool, not, ◌&&◌, ◌||◌, List, map, byt
 use Rattle.std.specs.List.{list_any}
 use Rattle.swc_ast.specs.Marks.{mark_number}
 use Rattle.swc_ast.specs.Tree as tree
-use Rattle.swc_ast.specs.Tree.{Text, same_name}
+use Rattle.swc_ast.specs.Tree.{Text}
 use Rattle.swc_ast.specs.Scope.{has_name}
 use Rattle.swc_ast.specs.Meaning.{is_unresolved}
 use Rattle.swc_ast.specs.Resolved.{is_default}

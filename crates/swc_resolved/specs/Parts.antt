@@ -1,7 +1,7 @@
 -- The names that some part of a tree gives to a scope.
 use Rattle.std.specs.Prelude.{Bool, true, false, List, [], ◌∷◌, Option, Some, None}
 use Rattle.swc_ast.specs.Tree as tree
-use Rattle.swc_ast.specs.Tree.{Tree, node, Forest, ε, ◌⊳◌}
+use Rattle.swc_ast.specs.Tree.{Tree, node, Forest, ◌⊳◌}
 use Rattle.swc_ast.specs.Scope.{vars, vars_all, declared, declared_by, declared_by_label, declarator_name, declarator_names, param_name, param_names, imported_name, specifier_names, import_names_of, import_names, body_statements, case_statements}
 use Rattle.swc_ast.specs.Resolved.{first_names}
 use Rattle.swc_ast.specs.declared.VarDeclKind.TheVariants.{Let, Const}

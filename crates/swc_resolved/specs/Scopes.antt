@@ -1,7 +1,7 @@
 -- What a scope binds, and what is left free where scopes are bound one by one.
 use Rattle.std.specs.Prelude.{ℕ, ◌+◌, ◌≤◌, ◌≡◌, Bool, true, false, List, [], ◌++◌, if◌then◌else◌}
 use Rattle.swc_ast.specs.Tree as tree
-use Rattle.swc_ast.specs.Tree.{Name, Label, Tree, node, Forest, ε, ◌⊳◌}
+use Rattle.swc_ast.specs.Tree.{Name, Label, Tree, Forest, ◌⊳◌}
 use Rattle.swc_ast.specs.Scope.{is_function, option_name, declared, case_statements, import_names}
 use Rattle.swc_ast.specs.Meaning.{head_names, first_tree}
 use Rattle.swc_ast.specs.Resolved.{one_if, catch_name, first_names, declared_names, params_of, body_of, params_apart, scopes, own_exports_bound}

@@ -1,5 +1,5 @@
 -- Keys, as a loop over properties comes to each.
-use Rattle.std.proofs.Common.{◌≡◌, ℕ, ◌+◌, ◌<◌, Bool, true, false, not, ◌&&◌, ◌||◌, List, [], ◌∷◌, ◌++◌, drop, length, Option, Some, None, option_to_list, bytes_eq, string_bytes, refl, sym, ap, ap₂, ◌∙◌, get_or, IsTrue}
+use Rattle.std.proofs.Common.{◌≡◌, ℕ, ◌+◌, ◌<◌, Bool, true, false, not, ◌&&◌, ◌||◌, List, [], ◌∷◌, ◌++◌, drop, length, Some, None, option_to_list, bytes_eq, string_bytes, sym, ap, ap₂, ◌∙◌, get_or, IsTrue}
 use Rattle.std.proofs.lemmas.Bool.{false≢true}
 use Rattle.std.proofs.lemmas.List.{at_drop_more}
 use Rattle.std.proofs.lemmas.List.Sorted.{list_any-IsPermutation}
@@ -13,7 +13,7 @@ use Rattle.swc_ast.specs.Parts.{list_trees}
 use Rattle.swc_ast.specs.Tree.{Text}
 use Rattle.swc_ast.specs.Views.{prop_or_spread_tree}
 use Rattle.swc_ast.specs.declared.expressions.PropOrSpread.{PropOrSpread}
-use Rattle.tree_keys.specs.Keys.{all_new, are_keys, key_of, keys_of}
+use Rattle.tree_keys.specs.Keys.{all_new, key_of, keys_of}
 use Rattle.tree_keys.specs.Sets.{has_key}
 use Rattle.tree_keys.specs.declared.keys.KeySet.{KeySet}
 

@@ -1,5 +1,5 @@
 -- Each kind of expression, once its parts are walked.
-use Rattle.std.proofs.Common.{◌≡◌, Bool, true, false, refl, sym, ap, ◌∙◌, subst, List, [], ◌∷◌, map}
+use Rattle.std.proofs.Common.{◌≡◌, Bool, true, false, refl, sym, ap, ◌∙◌, subst, List, ◌∷◌, map}
 use Rattle.std.proofs.lemmas.Bool.{false≢true}
 use Rattle.std.specs.Prelude.{ℕ, ◌==◌, Option, Some, None}
 use Rattle.std.specs.declared.alloc.Global.{Global}
@@ -7,9 +7,9 @@ use Rattle.std.specs.declared.boxed.Box.{Box}
 use Rattle.std.specs.declared.vec.Vec.{Vec}
 use Rattle.swc_ast.specs.Labels.{is_expression}
 use Rattle.swc_ast.specs.Tree as tree
-use Rattle.swc_ast.specs.Tree.{Tree, node, Forest, ε, ◌⊳◌, label_of}
-use Rattle.swc_ast.specs.Parts.{lit_tree, ident_tree, option_ident_name, option_ident_spans}
-use Rattle.swc_ast.specs.Expressions.{FunctionTrees, function_node, spread_kind, item_kind, item_spans, item_trees, array_tree, member_tree, member_node, member_update, member_assign, call_node, unary_node, unary_tree}
+use Rattle.swc_ast.specs.Tree.{Tree, node, Forest, label_of}
+use Rattle.swc_ast.specs.Parts.{lit_tree, option_ident_name, option_ident_spans}
+use Rattle.swc_ast.specs.Expressions.{spread_kind, item_kind, item_spans, item_trees, array_tree, member_tree, member_node, member_update, member_assign, call_node, unary_node, unary_tree}
 use Rattle.swc_ast.specs.Views.{expr_tree, prop_or_spread_tree, function_trees, arrow_tree}
 use Rattle.swc_ast.specs.declared.AssignOp.{AssignOp}
 use Rattle.swc_ast.specs.declared.Span.{Span}
@@ -49,10 +49,9 @@ use Rattle.swc_ast.specs.declared.literals.Lit.TheVariants as lit
 use Rattle.swc_ast.specs.declared.names.Ident.{Ident}
 use Rattle.swc_ast.specs.declared.names.IdentName.{IdentName}
 use Rattle.swc_ast.proofs.ApartExpressions.{ExprForm, expr_form, expr_number, expr_at}
-use Rattle.swc_ast.proofs.Labels as labels
 use Rattle.swc_ast.proofs.SameCalls.{Callee, dot, index, eval, plain, callee}
 use Rattle.swc_ast.proofs.Equations.{expr_tree-This, expr_tree-Ident, expr_tree-Lit, expr_tree-Invalid, expr_tree-Array, expr_tree-Object, expr_tree-Fn, expr_tree-Unary, expr_tree-Update, expr_tree-Bin, expr_tree-Assign, expr_tree-Member, expr_tree-Cond, expr_tree-Call, expr_tree-New, expr_tree-Seq, expr_tree-Tpl, expr_tree-Arrow}
-use Rattle.tree_put.specs.Put.{put, put_all, put_parts, steps, around, scoped, under, of_type}
+use Rattle.tree_put.specs.Put.{put, put_all, put_parts, steps, around, under}
 use Rattle.tree_put.specs.Puts.{Puts}
 use Rattle.tree_put.specs.Scopes.{function_forest}
 use Rattle.tree_put.specs.Walks.{Makes, MakesParts, MakesAll, Each, none, more, EachGoes, ItemGoes, PropGoes, TargetGoes, FunctionGoes, spot_of}

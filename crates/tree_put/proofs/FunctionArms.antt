@@ -1,14 +1,14 @@
 -- Objects and functions, once their parts are walked.
-use Rattle.std.proofs.Common.{◌≡◌, Bool, true, false, refl, sym, ap, ◌∙◌, subst, List, [], ◌∷◌, string_bytes}
+use Rattle.std.proofs.Common.{◌≡◌, refl, sym, ap, ◌∙◌, subst, List, [], ◌∷◌}
 use Rattle.std.specs.Prelude.{Option, Some, None}
 use Rattle.std.specs.declared.alloc.Global.{Global}
 use Rattle.std.specs.declared.boxed.Box.{Box}
 use Rattle.std.specs.declared.vec.Vec.{Vec}
 use Rattle.swc_ast.specs.Tree as tree
-use Rattle.swc_ast.specs.Tree.{Label, Tree, node, Forest, ε, ◌⊳◌, NameKey}
+use Rattle.swc_ast.specs.Tree.{Tree, node, ε, ◌⊳◌, NameKey}
 use Rattle.swc_ast.specs.Parts.{ident_tree, ident_name}
-use Rattle.swc_ast.specs.Expressions.{FunctionTrees, function_node, function_parts, key_tree, key_value_tree, shorthand_tree, param_tree, params_tree, method_node, arrow_node, body_tree}
-use Rattle.swc_ast.specs.Views.{expr_tree, stmt_tree, prop_or_spread_tree, prop_tree, method_tree, function_trees, arrow_tree, arrow_body_tree}
+use Rattle.swc_ast.specs.Expressions.{FunctionTrees, function_parts, key_tree, key_value_tree, shorthand_tree, param_tree, params_tree, method_node, arrow_node, body_tree}
+use Rattle.swc_ast.specs.Views.{expr_tree, stmt_tree, prop_or_spread_tree, prop_tree, method_tree, function_trees, arrow_body_tree}
 use Rattle.swc_ast.specs.declared.Span.{Span}
 use Rattle.swc_ast.specs.declared.declarations.AssignPat.{AssignPat}
 use Rattle.swc_ast.specs.declared.declarations.Decl.TheViews.{out-MethodProp, roll-MethodProp, out-roll-MethodProp}
@@ -32,7 +32,7 @@ use Rattle.swc_ast.specs.declared.names.Ident.{Ident}
 use Rattle.swc_ast.specs.declared.statements.BlockStmt.{BlockStmt}
 use Rattle.swc_ast.specs.declared.statements.Stmt.{Stmt}
 use Rattle.swc_ast.proofs.Equations.{prop_or_spread_tree-Spread, prop_or_spread_tree-Prop, prop_tree-Shorthand, prop_tree-KeyValue, prop_tree-Method, arrow_body_tree-BlockStmt, arrow_body_tree-Expr, method_tree-is, method_tree-roll}
-use Rattle.tree_put.specs.Put.{put, put_all, put_parts, steps, around, scoped, under, in_front, expanded, as_property}
+use Rattle.tree_put.specs.Put.{steps, around, scoped, under, in_front, expanded, as_property}
 use Rattle.tree_put.specs.Puts.{Puts, enter, stay, become}
 use Rattle.tree_put.specs.Scopes.{function_forest}
 use Rattle.tree_put.specs.Walks.{Makes, MakesParts, EachGoes, Goes, FunctionGoes, ShorthandGoes}

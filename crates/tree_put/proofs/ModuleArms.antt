@@ -1,13 +1,12 @@
 -- Modules and their items, once their parts are walked.
-use Rattle.std.proofs.Common.{◌≡◌, refl, sym, ap, ◌∙◌, subst, List, [], ◌∷◌}
+use Rattle.std.proofs.Common.{◌≡◌, refl, sym, ap, ◌∙◌, [], ◌∷◌}
 use Rattle.std.specs.declared.alloc.Global.{Global}
 use Rattle.std.specs.declared.boxed.Box.{Box}
 use Rattle.std.specs.declared.vec.Vec.{Vec}
 use Rattle.swc_ast.specs.Tree as tree
-use Rattle.swc_ast.specs.Tree.{Label, Tree, node, Forest, ε, ◌⊳◌}
+use Rattle.swc_ast.specs.Tree.{Label, node}
 use Rattle.swc_ast.specs.Parts.{list_trees, option_ident_name, option_ident_spans}
-use Rattle.swc_ast.specs.Expressions.{FunctionTrees}
-use Rattle.swc_ast.specs.Modules.{item_tree, module_decl_tree, import_tree, export_specifier_tree, named_export_tree, export_default_fn_tree, module_tree, script_tree}
+use Rattle.swc_ast.specs.Modules.{item_tree, module_decl_tree, import_tree, export_specifier_tree, export_default_fn_tree, module_tree, script_tree}
 use Rattle.swc_ast.specs.Views.{decl_tree, expr_tree, stmt_tree, function_trees}
 use Rattle.swc_ast.specs.declared.declarations.Decl.{Decl}
 use Rattle.swc_ast.specs.declared.declarations.Function.{Function}
@@ -25,12 +24,12 @@ use Rattle.swc_ast.specs.declared.modules.ModuleItem.{ModuleItem}
 use Rattle.swc_ast.specs.declared.modules.ModuleItem.TheVariants as items
 use Rattle.swc_ast.specs.declared.modules.NamedExport.{NamedExport}
 use Rattle.swc_ast.specs.declared.statements.Stmt.{Stmt}
-use Rattle.tree_put.specs.Put.{put, put_all, put_parts, steps, around, scoped, under}
+use Rattle.tree_put.specs.Put.{around, under}
 use Rattle.tree_put.specs.Puts.{Puts}
 use Rattle.tree_put.specs.Scopes.{function_forest}
 use Rattle.tree_put.specs.Walks.{Makes, EachGoes, FunctionGoes}
 use Rattle.tree_put.specs.declared.rules.Spot.TheVariants as spot
-use Rattle.tree_put.proofs.Putting.{nothing, both, one, parts, plain, passed, put_at, in_scope, each_list}
+use Rattle.tree_put.proofs.Putting.{one, parts, plain, passed, put_at, in_scope, each_list}
 
 pub decl_item : {S : Type 0} {X : Puts S} {s t : S} {e : ModuleItem} {n : ModuleDecl} (a : ModuleDecl) → e ≡ items.ModuleDecl n → Makes X (module_decl_tree n) s spot.Here (module_decl_tree a) t → Makes X (item_tree e) s spot.Here (item_tree (items.ModuleDecl a)) t
 decl_item a is w = put_at (ap item_tree is) refl w

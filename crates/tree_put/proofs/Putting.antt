@@ -2,14 +2,14 @@
 use Rattle.std.proofs.Common.{◌≡◌, ℕ, ◌+◌, ◌<◌, ◌≤◌, ◌++◌, length, Bool, true, false, refl, sym, ap, ◌∙◌, subst, List, [], ◌∷◌, take, get_or, set, arith}
 use Rattle.std.proofs.lemmas.Bool.{false≢true}
 use Rattle.std.proofs.lemmas.List.{take_all, take_more, take_more_set}
-use Rattle.std.specs.Prelude.{if◌then◌else◌, Option, Some, None}
+use Rattle.std.specs.Prelude.{if◌then◌else◌, Some}
 use Rattle.swc_ast.specs.Labels.{is_expression}
 use Rattle.swc_ast.specs.Tree as tree
 use Rattle.swc_ast.specs.Tree.{Label, Tree, node, Forest, ε, ◌⊳◌, label_of}
 use Rattle.swc_ast.specs.Parts.{list_trees}
 use Rattle.swc_ast.specs.declared.Span.{Span}
 use Rattle.swc_ast.specs.declared.UnaryOp.TheVariants as op
-use Rattle.tree_put.specs.Put.{put, put_all, put_parts, steps, around, in_turn, under, chosen, scoped}
+use Rattle.tree_put.specs.Put.{put, put_all, put_parts, steps, around, under, chosen}
 use Rattle.tree_put.specs.Answers.{answer_of}
 use Rattle.tree_put.specs.declared.rules.Put.{Put}
 use Rattle.tree_put.specs.Puts.{Puts, Answer, enter, stay, become}

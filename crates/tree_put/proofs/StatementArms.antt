@@ -1,14 +1,14 @@
 -- Each kind of statement and declaration, once its parts are walked.
-use Rattle.std.proofs.Common.{◌≡◌, Bool, true, false, refl, sym, ap, ◌∙◌, subst, List, [], ◌∷◌, map}
+use Rattle.std.proofs.Common.{◌≡◌, refl, sym, ap, ◌∙◌, subst, List, [], ◌∷◌, map}
 use Rattle.std.specs.Prelude.{Option, Some, None}
 use Rattle.std.specs.declared.alloc.Global.{Global}
 use Rattle.std.specs.declared.boxed.Box.{Box}
 use Rattle.std.specs.declared.vec.Vec.{Vec}
 use Rattle.swc_ast.specs.Tree as tree
 use Rattle.swc_ast.specs.Tree.{Name, Label, Tree, node, Forest, ε, ◌⊳◌}
-use Rattle.swc_ast.specs.Parts.{list_trees, optional_trees, tree_or_absent, absent, ident_name, option_ident_name}
-use Rattle.swc_ast.specs.Expressions.{FunctionTrees, body_tree}
-use Rattle.swc_ast.specs.Statements.{LoopTrees, CaseTrees, block_tree, option_block_tree, try_tree, handler_tree, handler_param, handler_spans, if_node, for_node, while_node, do_while_node, loop_parts, case_parts, is_default_case, is_missing, case_children, switch_node, option_init_tree, init_tree, var_tree, declarator_tree, fn_decl_tree}
+use Rattle.swc_ast.specs.Parts.{list_trees, optional_trees, tree_or_absent, ident_name, option_ident_name}
+use Rattle.swc_ast.specs.Expressions.{body_tree}
+use Rattle.swc_ast.specs.Statements.{LoopTrees, CaseTrees, block_tree, option_block_tree, try_tree, handler_param, handler_spans, if_node, for_node, while_node, do_while_node, loop_parts, case_parts, is_default_case, is_missing, case_children, switch_node, option_init_tree, init_tree, var_tree, declarator_tree, fn_decl_tree}
 use Rattle.swc_ast.specs.Views.{expr_tree, stmt_tree, decl_tree, if_tree, switch_tree, for_tree, case_trees, loop_trees, function_trees}
 use Rattle.swc_ast.specs.declared.Span.{Span}
 use Rattle.swc_ast.specs.declared.VarDeclKind.{VarDeclKind}
@@ -40,12 +40,12 @@ use Rattle.swc_ast.specs.declared.statements.VarDeclOrExpr.{VarDeclOrExpr}
 use Rattle.swc_ast.specs.declared.statements.VarDeclOrExpr.TheVariants as init
 use Rattle.swc_ast.specs.declared.statements.WhileStmt.{WhileStmt}
 use Rattle.swc_ast.proofs.Equations.{stmt_tree-Block, stmt_tree-Empty, stmt_tree-Break, stmt_tree-Continue, stmt_tree-Return, stmt_tree-Labeled, stmt_tree-If, stmt_tree-Switch, stmt_tree-Throw, stmt_tree-Try, stmt_tree-While, stmt_tree-DoWhile, stmt_tree-For, stmt_tree-Decl, stmt_tree-Expr, decl_tree-Fn, decl_tree-Var, switch_tree-is, switch_tree-roll}
-use Rattle.tree_put.specs.Put.{put, put_all, put_parts, steps, around, scoped, handled, under, in_front}
+use Rattle.tree_put.specs.Put.{put, steps, around, scoped, handled, under, in_front}
 use Rattle.tree_put.specs.Puts.{Puts}
 use Rattle.tree_put.specs.Scopes.{function_forest}
-use Rattle.tree_put.specs.Walks.{Makes, MakesParts, MakesAll, MakesScope, Each, none, more, EachGoes, Goes, OptionGoes, FunctionGoes, CaseGoes, LoopGoes, DoLoopGoes, HandlerGoes, DeclaratorGoes, handler_put}
+use Rattle.tree_put.specs.Walks.{Makes, MakesAll, MakesScope, Each, none, more, EachGoes, Goes, OptionGoes, FunctionGoes, CaseGoes, LoopGoes, DoLoopGoes, HandlerGoes, DeclaratorGoes, handler_put}
 use Rattle.tree_put.specs.declared.rules.Spot.TheVariants as spot
-use Rattle.tree_put.proofs.Putting.{nothing, both, one, parts, plain, passed, parts_at, put_at, put_then, all_then, in_scope, each_list}
+use Rattle.tree_put.proofs.Putting.{nothing, both, one, parts, plain, passed, put_at, put_then, all_then, in_scope, each_list}
 
 -- an expression or a statement, if any
 pub option_trees : {S N : Type 0} {X : Puts S} (f : N → Tree) {s t : S} (o p : Option (Box N Global)) → OptionGoes X f s o p t → MakesAll X (optional_trees f o) s (optional_trees f p) t

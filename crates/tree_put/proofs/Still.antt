@@ -1,13 +1,13 @@
 -- A pass that carries nothing has the state behind a tree that it had in front of it.
-use Rattle.std.proofs.Common.{◌≡◌, Bool, true, false, refl, sym, ap, ◌∙◌, List, [], ◌∷◌}
-use Rattle.std.specs.Prelude.{if◌then◌else◌, Option, Some, None}
+use Rattle.std.proofs.Common.{◌≡◌, Bool, true, false, refl, ap, ◌∙◌, List, [], ◌∷◌}
+use Rattle.std.specs.Prelude.{if◌then◌else◌, Some}
 use Rattle.swc_ast.specs.Labels.{is_expression}
 use Rattle.swc_ast.specs.Tree as tree
 use Rattle.swc_ast.specs.Tree.{Label, Tree, node, Forest, ε, ◌⊳◌}
 use Rattle.swc_ast.specs.declared.Span.{Span}
 use Rattle.swc_ast.specs.declared.UnaryOp.TheVariants as op
 use Rattle.tree_put.specs.Put.{Step, put, steps, around, in_turn, chosen, expanded}
-use Rattle.tree_put.specs.Puts.{Answer, enter, stay, become, Puts}
+use Rattle.tree_put.specs.Puts.{Answer, enter, stay, become}
 use Rattle.tree_put.specs.Still.{still, put_still}
 use Rattle.tree_put.specs.declared.rules.Spot.{Spot}
 use Rattle.tree_put.specs.declared.rules.Spot.TheVariants as spot

@@ -1,9 +1,8 @@
 -- What the walk makes of a tree: it goes through it in the order of the text.
-use Rattle.std.specs.Prelude.{Bool, true, false, ◌≡◌, if◌then◌else◌, List, [], ◌∷◌, Option, Some, None}
+use Rattle.std.specs.Prelude.{if◌then◌else◌, List, [], ◌∷◌, Some}
 use Rattle.swc_ast.specs.Labels.{is_expression}
-use Rattle.swc_ast.specs.Tree.{Text, Name, NameKey, Label, Read, KeyValue, Shorthand, PlainKey, Method, Fn, Arrow, FnDecl, TypeOfName, Unary, Dot, Index, Call, CallEval, CallDot, CallIndex, Block, Body, CaseBody, For, Switch, Try, Declarator, Module, Script, Import, ExportSpecifier, ExportDefaultFn, Tree, node, Forest, ε, ◌⊳◌, NumLit, StrLit, BoolLit, NullLit, This, Invalid, Template, Array, Object, Binary, Cond, Seq, New, Assign, AssignDot, AssignIndex, Update, UpdateDot, UpdateIndex}
+use Rattle.swc_ast.specs.Tree.{Name, NameKey, Label, Read, KeyValue, Shorthand, PlainKey, Method, Fn, Arrow, FnDecl, TypeOfName, Unary, Dot, Index, Call, CallEval, CallDot, CallIndex, Block, Body, CaseBody, For, Switch, Try, Declarator, Module, Script, Import, ExportSpecifier, ExportDefaultFn, Tree, node, Forest, ε, ◌⊳◌}
 use Rattle.swc_ast.specs.declared.Span.{Span}
-use Rattle.swc_ast.specs.declared.UnaryOp.{UnaryOp}
 use Rattle.swc_ast.specs.declared.UnaryOp.TheVariants as op
 use Rattle.swc_ast.specs.Expressions.{call_node, unary_node}
 use Rattle.tree_put.specs.declared.rules.Spot.{Spot}

@@ -1,11 +1,11 @@
 -- The label of a scope's node, and what stands in it.
-use Rattle.std.specs.Prelude.{map, Option, Some, None}
+use Rattle.std.specs.Prelude.{map, Some}
 use Rattle.swc_ast.specs.Tree as tree
-use Rattle.swc_ast.specs.Tree.{Label, Tree, node, Forest, ε, ◌⊳◌, children_of}
+use Rattle.swc_ast.specs.Tree.{Label, Forest, ε, ◌⊳◌, children_of}
 use Rattle.swc_ast.specs.Parts.{list_trees, ident_name, option_ident_name}
 use Rattle.swc_ast.specs.Expressions.{FunctionTrees}
 use Rattle.swc_ast.specs.Modules.{item_tree}
-use Rattle.swc_ast.specs.Statements.{CaseTrees, is_default_case, case_children, block_tree}
+use Rattle.swc_ast.specs.Statements.{is_default_case, case_children, block_tree}
 use Rattle.swc_ast.specs.Views.{stmt_tree, function_trees, arrow_tree, for_tree, case_trees}
 use Rattle.tree_put.specs.declared.rules.Scope.{Scope}
 use Rattle.tree_put.specs.declared.rules.Scope.TheVariants as scope

@@ -2,8 +2,7 @@
 use Rattle.std.specs.Prelude.{Bool, ◌≡◌, List, [], ◌∷◌, Option, Some, None}
 use Rattle.std.specs.declared.alloc.Global.{Global}
 use Rattle.std.specs.declared.boxed.Box.{Box}
-use Rattle.swc_ast.specs.Tree.{Name, Label, Try, Tree, node, Forest, ε, ◌⊳◌}
-use Rattle.swc_ast.specs.Parts.{list_trees, optional_trees, tree_or_absent}
+use Rattle.swc_ast.specs.Tree.{Name, Label, Try, Tree, Forest, ε, ◌⊳◌}
 use Rattle.swc_ast.specs.Expressions.{FunctionTrees, shorthand_tree, update_node, assign_node}
 use Rattle.swc_ast.specs.Statements.{LoopTrees, CaseTrees, declarator_tree, handler_tree, handler_param, handler_spans}
 use Rattle.swc_ast.specs.Views.{expr_tree, stmt_tree, prop_tree}

@@ -12,7 +12,6 @@ use Rattle.meaning_proofs.specs.Names as names
 use Rattle.meaning_proofs.specs.Names.{Names, Watched, Exported}
 use Rattle.meaning_proofs.specs.Exact.{Idle, GivesUndefined}
 use Rattle.meaning_proofs.specs.Sameness.{heeded, ignoring}
-use Rattle.meaning_proofs.specs.Roles as roles
 use Rattle.meaning_proofs.specs.Roles.{is_item, Clean, DeclaresNone}
 use Rattle.meaning_proofs.specs.Rewrites.{is_exported, Specifiers, no_more as no_specifiers, keep, skip}
 use Rattle.meaning_proofs.specs.Walks as meaning

@@ -1,4 +1,4 @@
-use Rattle.std.proofs.Common.{◌∷◌, [], ap, ◌∙◌}
+use Rattle.std.proofs.Common.{ap, ◌∙◌}
 use Rattle.swc_ast.specs.Expressions.{item_spans, item_trees}
 use Rattle.swc_ast.specs.Scope.{joined}
 use Rattle.swc_ast.specs.Tree.{ε, ◌⊳◌}

@@ -1,4 +1,3 @@
-use Rattle.std.proofs.Common.{refl}
 use Rattle.swc_ast.specs.Views.{expr_tree}
 use Rattle.swc_utils.specs.Globals.{unresolved}
 use Rattle.branch_statements.proofs.Rested.{other_word, idle_literal, not_idle_literal}

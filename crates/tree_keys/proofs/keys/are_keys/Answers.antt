@@ -1,5 +1,5 @@
 use Rattle.std.proofs.Common.{refl, sym, ap, codes, [], ◌∷◌, ◌∙◌, string_bytes, option_map}
-use Rattle.tree_keys.proofs.Seen.{first_key, without_key, new_key, old_key}
+use Rattle.tree_keys.proofs.Seen.{first_key, without_key, new_key}
 use Rattle.tree_keys.proofs.keys.are_keys.Goals as goal
 use Rattle.tree_keys.proofs.keys.are_keys.Goals.{in-Some+in_ok-insert-2+else-not-branch, in_default}
 

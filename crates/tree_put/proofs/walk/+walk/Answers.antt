@@ -1,6 +1,6 @@
-use Rattle.std.proofs.Common.{rules, refl, sym, ap, ◌∙◌, subst, false}
+use Rattle.std.proofs.Common.{rules, refl, sym, ap, ◌∙◌}
 use Rattle.swc_ast.proofs.Equations.{function_trees-is, arrow_tree-is, if_tree-is, case_trees-is, loop_trees-is, for_tree-is}
-use Rattle.tree_put.proofs.Putting.{told, entered, stayed, became, nothing, each_more, each_all, each_list, in_scope}
+use Rattle.tree_put.proofs.Putting.{told, entered, stayed, became, each_more, each_all, each_list, in_scope}
 use Rattle.tree_put.proofs.Arms.{is_asked, this_arm, ident_arm, lit_arm, invalid_arm, bin_arm, cond_arm, new_arm, seq_arm, tpl_arm, object_arm, unary_arm, member_arm, arrow_arm, update_arm, assign_arm, call_arm, array_arm, member_parts, member_target, fn_arm, target_name, target_at, operand_made, operand_deleted}
 use Rattle.tree_put.proofs.FunctionArms.{spread_arm, prop_arm, key_value_arm, key_value_made, method_arm, method_rolled, key_stays, computed_key, name_param, assign_param, function_made, arrow_made, arrow_block, arrow_expr, prop_becomes, prop_stays}
 use Rattle.tree_put.proofs.StatementArms.{body_made, block_made, block_arm, empty_arm, break_arm, continue_arm, return_arm, labeled_arm, throw_arm, expr_stmt_arm, if_made, if_arm, switch_arm, for_arm, decl_arm, try_arm, while_arm, do_while_arm, loop_made, do_loop_made, for_made, no_handler, no_finalizer, try_made, switch_rolled, case_made, declarator_made, var_made, fn_decl_arm, var_arm, no_init}

@@ -4,7 +4,7 @@ use Rattle.tree_visit.specs.Nodes.{node_tree, children_forest, next_forest}
 use Rattle.carry_parts.specs.Carries.{pass_of}
 use Rattle.carry_reads.specs.Walks.{puts}
 use Rattle.carry_reads.proofs.Stating.{grown_fits, added_grown}
-use Rattle.carry_reads.proofs.Walking.{call_gives, head_room, grown_room, inner_grown, end_grown, node_read, all_left, one_less, none_left, children_fall, child_falls}
+use Rattle.carry_reads.proofs.Walking.{call_gives, head_room, grown_room, end_grown, node_read, all_left, one_less, none_left, children_fall, child_falls}
 use Rattle.carry_reads.proofs.reader.Reader.+node.Goals as goal
 
 pub nodes-loop-child-init : goal.nodes-loop-child-init

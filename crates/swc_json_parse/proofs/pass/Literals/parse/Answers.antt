@@ -1,4 +1,4 @@
-use Rattle.std.proofs.Common.{◌≡◌, ◌++◌, sym, ap, ◌∙◌, string_bytes, arith}
+use Rattle.std.proofs.Common.{◌≡◌, ◌++◌, sym, ap, ◌∙◌, arith}
 use Rattle.swc_ast.specs.Views.{expr_tree}
 use Rattle.swc_json_parse.specs.Parsing.{parse_call}
 use Rattle.swc_json_parse.specs.Written.{text_within}

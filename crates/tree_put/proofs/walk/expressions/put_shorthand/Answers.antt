@@ -5,9 +5,6 @@ use Rattle.swc_ast.specs.declared.expressions.PropName.TheVariants as key
 use Rattle.tree_put.specs.declared.rules.Put.TheVariants as in_put
 use Rattle.tree_put.proofs.Putting.{told}
 use Rattle.tree_put.proofs.FunctionArms.{shorthand_enters, shorthand_stays, shorthand_becomes_at}
-use Rattle.tree_put.proofs.Arms
-use Rattle.tree_put.proofs.StatementArms
-use Rattle.tree_put.proofs.ModuleArms
 use Rattle.tree_put.proofs.walk.expressions.put_shorthand.Goals as goal
 
 pub returns-in-Enter : goal.returns-in-Enter
