@@ -147,25 +147,31 @@ impl InRounds for Units {
     }
 }
 
+/// What a pass makes of a module or a script.
+fn made_by<P: Pass, W: Whole>(pass: &mut P, alloc: Global, whole: W) -> Result<Made<W>, PassError>
+    ensures settings { P.settings pass.new ≡ P.settings pass.old }
+    ensures answer { IfOk result (λ r. (P.spec (P.settings pass.old)).answers (W.tree whole) (W.tree r.whole)) }
+    ensures changed { IfOk result (λ r. TellsChange r.changed (W.tree whole) (W.tree r.whole)) }
+    ensures memory { IfErr result (λ e. e ≡ OutOfMemory) }
+{
+    let whole = whole.rewritten(pass, alloc)?;
+    let changed = pass.changed();
+    Ok(Made { whole, changed })
+}
+
 impl InRounds for Script {
     ghost tree = { script_tree };
 
     fn simplified(self, pass: &mut SimplifyExpr, alloc: Global) -> Result<Made<Script>, PassError> {
-        let whole = self.rewritten(pass, alloc)?;
-        let changed = pass.changed();
-        Ok(Made { whole, changed })
+        made_by(pass, alloc, self)
     }
 
     fn removed(self, pass: &mut Remover, alloc: Global) -> Result<Made<Script>, PassError> {
-        let whole = self.rewritten(pass, alloc)?;
-        let changed = pass.changed();
-        Ok(Made { whole, changed })
+        made_by(pass, alloc, self)
     }
 
     fn shaken(self, pass: &mut TreeShaker, alloc: Global) -> Result<Made<Script>, PassError> {
-        let whole = self.rewritten(pass, alloc)?;
-        let changed = pass.changed();
-        Ok(Made { whole, changed })
+        made_by(pass, alloc, self)
     }
 
     fn peeled(
