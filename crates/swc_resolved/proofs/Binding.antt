@@ -57,20 +57,6 @@ bound_once old new xs h grown x = ap one_if (grown x) ∙ one_of (old x) (has_na
 
 -- names that are added one by one
 
-or_moved : (a b c : Bool) → ((a || b) || c) ≡ (a || (b || c))
-or_moved true b c = refl
-or_moved false b c = refl
-
-pub add_next : (old new g : Name → Bool) (y : Name) (xs : List Name) → ((x : Name) → new x ≡ (old x || same_name x y)) → ((x : Name) → (old x || has_name x (y ∷ xs)) ≡ g x) → (x : Name) → (new x || has_name x xs) ≡ g x
-add_next old new g y xs grown h x = ap (λ b. b || has_name x xs) (grown x) ∙ or_moved (old x) (same_name x y) (has_name x xs) ∙ h x
-
-or_nothing : (a : Bool) → a ≡ (a || false)
-or_nothing true = refl
-or_nothing false = refl
-
-pub all_added : (new g : Name → Bool) (xs : List Name) → xs ≡ [] → ((x : Name) → (new x || has_name x xs) ≡ g x) → (x : Name) → new x ≡ g x
-all_added new g xs is h x = or_nothing (new x) ∙ sym (ap (λ ys. new x || has_name x ys) is) ∙ h x
-
 -- scopes behind scopes
 
 pub binds_as : (b : Bool) (old new : Name → Bool) (more all : Name → ℕ) → ((x : Name) → more x ≡ all x) → Binds b old new more → Binds b old new all

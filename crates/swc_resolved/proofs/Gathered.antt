@@ -8,7 +8,6 @@ use Rattle.swc_ast.specs.declared.VarDeclKind.TheVariants.{Var, Let, Const}
 use Rattle.swc_ast.specs.Tree as tree
 use Rattle.swc_ast.specs.Tree.{Name, Label, Tree, node, Forest, ε, ◌⊳◌, label_of, children_of}
 use Rattle.swc_ast.specs.Scope.{vars, vars_all, own_vars, holds_statements, declared, declared_by, declared_by_label, as_lexicals, declarator_name, declarator_names, param_name, imported_name, specifier_names, import_names_of, body_statements, case_statements, joined}
-use Rattle.swc_ast.specs.Meaning.{head_names, first_tree}
 use Rattle.swc_ast.specs.Resolved.{first_names}
 use Rattle.static_proofs.proofs.Names.{first_names_append}
 use Rattle.tree_visit.proofs.Caps.{tree_size, forest_size}
@@ -51,6 +50,9 @@ none_given part.CaseVars = refl
 
 pub goes_on : (p : Part) (t : Tree) (ts us : Forest) (xs new g : List Name) → us ≡ t ⊳ ts → new ≡ xs ++ tree_names p t → xs ++ forest_names p us ≡ g → new ++ forest_names p ts ≡ g
 goes_on p t ts us xs new g is grown h = ap (λ ys. ys ++ forest_names p ts) grown ∙ append_assoc xs (tree_names p t) (forest_names p ts) ∙ sym (ap (λ ys. xs ++ ys) (ap (forest_names p) is ∙ one_by_one p t ts)) ∙ h
+
+pub passes_by : (p : Part) (t : Tree) (ts us : Forest) (xs g : List Name) → us ≡ t ⊳ ts → tree_names p t ≡ [] → xs ++ forest_names p us ≡ g → xs ++ forest_names p ts ≡ g
+passes_by p t ts us xs g is none h = ap (λ ys. xs ++ (ys ++ forest_names p ts)) (sym none) ∙ sym (ap (λ ys. xs ++ ys) (ap (forest_names p) is ∙ one_by_one p t ts)) ∙ h
 
 pub ends : (p : Part) (us : Forest) (xs g : List Name) → us ≡ ε → xs ++ forest_names p us ≡ g → xs ≡ g
 ends p us xs g is h = sym (ap (λ ys. xs ++ ys) (ap (forest_names p) is ∙ none_given p) ∙ append-nil xs) ∙ h
@@ -226,12 +228,3 @@ pub no_case_vars : (p : Part) (t : Tree) (l : Label) → p ≡ part.CaseVars →
 no_case_vars p t l whole labelled is = sym (case_vars_as p t l (children_of t) whole labelled refl ∙ ap vars_all (no_case_label l (children_of t) is))
 
 -- what several parts give
-
-pub both_added : (xs ys zs a b : List Name) → ys ≡ xs ++ a → zs ≡ ys ++ b → zs ≡ xs ++ (a ++ b)
-both_added xs ys zs a b e f = f ∙ ap (λ us. us ++ b) e ∙ append_assoc xs a b
-
-pub no_head : (us : Forest) → us ≡ ε → [] ≡ first_names (head_names (first_tree us))
-no_head us is = sym (ap (λ ts. first_names (head_names (first_tree ts))) is)
-
-pub head_first : (t : Tree) (ts us : Forest) → us ≡ t ⊳ ts → tree_names part.Declarations t ≡ first_names (head_names (first_tree us))
-head_first t ts us is = ap first_names (sym (append-nil (declared_by t))) ∙ sym (ap (λ vs. first_names (head_names (first_tree vs))) is)

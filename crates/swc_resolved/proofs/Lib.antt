@@ -2,6 +2,7 @@ pub mod Sizes
 pub mod Sets
 pub mod Aimed
 pub mod Gathered
+pub mod Silent
 pub mod Halves
 pub mod Binding
 pub mod Specifiers

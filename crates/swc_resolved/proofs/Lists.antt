@@ -26,9 +26,6 @@ apart_as ns us vs is = ap (λ xs. once_each xs xs && none_in xs vs) is
 pub apart_from : (ns vs ws : List Name) → vs ≡ ws → (once_each ns ns && none_in ns vs) ≡ (once_each ns ns && none_in ns ws)
 apart_from ns vs ws are = ap (λ xs. once_each ns ns && none_in ns xs) are
 
-pub none_apart : (ns vs : List Name) → ns ≡ [] → true ≡ (once_each ns ns && none_in ns vs)
-none_apart ns vs none = sym (ap (λ xs. once_each xs xs && none_in xs vs) none)
-
 pub apart_turned : (os ns us : List Name) → ns ≡ us → (once_each os os && none_in os ns) ≡ (once_each os os && none_in us os)
 apart_turned os ns us is = ap (λ b. once_each os os && b) (sym (none_swapped os ns) ∙ ap (λ xs. none_in xs os) is)
 

@@ -53,10 +53,6 @@ specifier_shows (ImportDefault x) h = refl
 specifier_shows (ImportStar x) h = refl
 specifier_shows l h = absurd (false≢true h)
 
-params_show : (l : Label) → is_params l ≡ true → holds_vars l ≡ false
-params_show Params h = refl
-params_show l h = absurd (false≢true h)
-
 no_own : (l : Label) → holds_vars l ≡ false → own_vars l ≡ []
 no_own (Declarator k x) h = absurd (false≢true (sym h))
 no_own l h = refl

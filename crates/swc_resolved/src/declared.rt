@@ -13,6 +13,7 @@ ghost use Rattle.swc_resolved.specs.Parts.{optional, tree_names, forest_names, l
 ghost use Rattle.swc_resolved.specs.Scopes.{own_names};
 
 use crate::names::Name;
+use crate::still::is_still;
 use std::alloc::AllocError;
 use swc_ast::{CatchClause, Ident, VarDeclKind};
 use tree_visit::{Children, Kind, Node, Opened};
@@ -49,7 +50,9 @@ pub fn add_names<'a>(
 {
     let mut left = children;
     while let Some((child, rest)) = left.next() {
-        add_names_of(names, child, part)?;
+        if !is_still(child, part) {
+            add_names_of(names, child, part)?;
+        }
         left = rest;
     }
     Ok(())

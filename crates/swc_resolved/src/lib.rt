@@ -11,6 +11,7 @@ mod jumps;
 mod names;
 mod resolved;
 mod scopes;
+mod still;
 mod walk;
 
 pub use declared::{Part, add_body, add_names, add_own_names};

@@ -1,9 +1,8 @@
 //! Names, and sets of them.
 ghost use Rattle.std.specs.Prelude.{◌≡◌, ◌||◌, ◌&&◌, not, false, [], IfOk, OnOk, bytes_eq};
 ghost use Rattle.swc_ast.specs.Marks.{mark_number};
-ghost use Rattle.swc_ast.specs.Meaning.{is_unresolved};
 ghost use Rattle.swc_ast.specs.Parts.{ident_name};
-ghost use Rattle.swc_ast.specs.Resolved.{is_default, declares_text};
+ghost use Rattle.swc_ast.specs.Resolved.{declares_text};
 ghost use Rattle.swc_ast.specs.Scope.{default_name, has_name};
 ghost use Rattle.swc_ast.specs.Tree as tree;
 ghost use Rattle.swc_ast.specs.Tree.{same_name};

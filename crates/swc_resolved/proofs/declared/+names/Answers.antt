@@ -3,13 +3,20 @@ use Rattle.tree_visit.specs.Kinds.{kind_label}
 use Rattle.tree_visit.specs.Nodes.{node_tree, children_forest, next_forest}
 use Rattle.swc_resolved.specs.Names.{names}
 use Rattle.swc_resolved.proofs.Sizes.{rest_within}
-use Rattle.swc_resolved.proofs.Gathered.{goes_on, declarators, declaration_falls}
+use Rattle.swc_resolved.proofs.Gathered.{goes_on, passes_by, declarators, declaration_falls}
 use Rattle.swc_resolved.proofs.declared.+names.Goals as goal
+
+pub add_names-loop-child-preserved-in_ok-add_names_of : goal.add_names-loop-child-preserved-in_ok-add_names_of
+add_names-loop-child-preserved-in_ok-add_names_of t c =
+    let is = c.next.ensures ∙ ap next_forest c.in-Some.is in (
+      goes_on c.args.part (node_tree c.in-Some.child) (children_forest c.in-Some.rest) (children_forest c.loop-child.left) (names c.loop-child.names.items) (names c.add_names_of.new.names.items) (names c.args.names.now.items ++ _) is c.in_ok-add_names_of.ensures c.loop-child.invariant.0,
+      rest_within (node_tree c.in-Some.child) (children_forest c.in-Some.rest) (children_forest c.loop-child.left) (children_forest c.args.children) is c.loop-child.invariant.1,
+    )
 
 pub add_names-loop-child-preserved : goal.add_names-loop-child-preserved
 add_names-loop-child-preserved t c =
     let is = c.next.ensures ∙ ap next_forest c.in-Some.is in (
-      goes_on c.args.part (node_tree c.in-Some.child) (children_forest c.in-Some.rest) (children_forest c.loop-child.left) (names c.loop-child.names.items) (names c.add_names_of.new.names.items) (names c.args.names.now.items ++ _) is c.in_ok-add_names_of.ensures c.loop-child.invariant.0,
+      passes_by c.args.part (node_tree c.in-Some.child) (children_forest c.in-Some.rest) (children_forest c.loop-child.left) (names c.loop-child.names.items) (names c.args.names.now.items ++ _) is (c.is_still.ensures c.if-not-is_still.false) c.loop-child.invariant.0,
       rest_within (node_tree c.in-Some.child) (children_forest c.in-Some.rest) (children_forest c.loop-child.left) (children_forest c.args.children) is c.loop-child.invariant.1,
     )
 
