@@ -1,13 +1,12 @@
 -- The names that stay of statements behind one that ends their list.
 use Rattle.std.proofs.Common.{◌≡◌, Bool, true, false, ◌==◌, if◌then◌else◌, List, [], ◌∷◌, ◌++◌, refl, sym, ap, ◌∙◌}
 use Rattle.swc_ast.specs.Tree as tree
-use Rattle.swc_ast.specs.Tree.{Name, Tree, node, Forest, ◌⊳◌, label_of}
+use Rattle.swc_ast.specs.Tree.{Name, Tree, node, label_of}
 use Rattle.swc_ast.specs.Parts.{ident_name, list_trees}
 use Rattle.swc_ast.specs.SameLaws.{impossible}
 use Rattle.swc_ast.specs.Scope.{vars, vars_all, declarator_names}
 use Rattle.swc_ast.specs.Statements.{declarator_tree, var_tree}
 use Rattle.swc_ast.specs.Views.{decl_tree, expr_tree, stmt_tree}
-use Rattle.swc_ast.specs.Weight.{stays_behind}
 use Rattle.swc_ast.specs.declared.Span.{Span}
 use Rattle.swc_ast.specs.declared.VarDeclKind.{VarDeclKind}
 use Rattle.swc_ast.specs.declared.VarDeclKind.TheVariants.{Var, Let, Const}
@@ -25,9 +24,8 @@ use Rattle.swc_ast.specs.declared.statements.Stmt.TheVariants as in_stmt
 use Rattle.swc_ast.proofs.ApartStatements.{StmtForm, stmt_form, stmt_at}
 use Rattle.swc_ast.proofs.Equations.{decl_tree-Fn}
 use Rattle.std.proofs.lemmas.List.{append-nil}
-use Rattle.branch_rules.specs.Lists.{going}
 use Rattle.static_proofs.specs.Shaped.{is_lexical}
-use Rattle.branch_rules.specs.Vars.{those, names_left, all_names_left}
+use Rattle.branch_rules.specs.Vars.{those}
 use Rattle.branch_lists.specs.Cuts.{picked, going_names}
 
 all_picked : (kept : Name → Bool) (ds : List (VarDeclarator Expr)) → picked kept false ds ≡ vars_all (list_trees (declarator_tree expr_tree Var) ds)
@@ -62,13 +60,6 @@ no_declaration kept s none = by (out-Stmt s) (roll-out-Stmt s)
     by : (o : StmtForm) → roll-Stmt o ≡ s → vars (stmt_tree s) ≡ going_names kept (stmt_tree s)
     by (Open.Decl n) r = absurd (none n (sym r ∙ in_stmt.rolls-Decl n))
     by o r = other_names kept (stmt_tree s) (ap (λ x. stmt_form (label_of (stmt_tree x)) == 14) (sym r) ∙ ap (λ n. n == 14) (stmt_at o)) (ap (λ x. stmt_form (label_of (stmt_tree x)) == 0) (sym r) ∙ ap (λ n. n == 0) (stmt_at o))
-
-pub names_behind : (kept : Name → Bool) (t : Tree) (ts : Forest) → all_names_left kept (going (t ⊳ ts)) ≡ going_names kept t ++ all_names_left kept (going ts)
-names_behind kept t ts = by (stays_behind t)
-  where
-    by : (b : Bool) → all_names_left kept (if b then going ts else t ⊳ going ts) ≡ (if b then [] else names_left kept t) ++ all_names_left kept (going ts)
-    by true = refl
-    by false = refl
 
 -- of a function nothing goes
 pub no_function : (kept : Name → Bool) (d : Decl) (n : FnDecl Function) (xs : List Name) → d ≡ in_decl.Fn n → xs ≡ xs ++ going_names kept (decl_tree d)

@@ -238,10 +238,6 @@ cut_past kept all others left out new t stop is pushed h us cut =
 pub cut_end : (kept : Name → Bool) (all left out : Forest) → left ≡ ε → ((us : Forest) → Cut kept left us → Cut kept all (joined out us)) → Cut kept all out
 cut_end kept all left out is h = subst (Cut kept all) (joined_none out) (h ε (subst (λ ts. Cut kept ts ε) (sym is) uncut))
 
-pub cut_here : (kept : Name → Bool) (all others left behind out new : Forest) (t : Tree) → left ≡ t ⊳ others → behind ≡ others → CutsOnto kept (t ⊳ behind) out new → ((us : Forest) → Cut kept left us → Cut kept all (joined out us)) → Cut kept all new
-cut_here kept all others left behind out new t is same onto h =
-    subst (Cut kept all) (sym onto.is) (h onto.left (subst (λ ts. Cut kept ts onto.left) (ap (λ ts. t ⊳ ts) same ∙ sym is) onto.cuts))
-
 pub cuts_onto : (kept : Name → Bool) (t : Tree) (ts vs old mid next new : Forest) → is_stopper t ≡ true → NamesOf kept (going ts) vs → mid ≡ joined old vs → next ≡ joined mid (t ⊳ ε) → new ≡ joined next (staying ts) → CutsOnto kept (t ⊳ ts) old new
 cuts_onto kept t ts vs old mid next new stop names a b c = record {
   left = joined vs (t ⊳ staying ts);

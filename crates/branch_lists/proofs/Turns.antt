@@ -37,6 +37,6 @@ first_left (y ∷ ys) x some is = ap₂ (λ k ks. k ∷ ks) (sym is) (sym (take_
 pub pushed_item : {X : Type 0} (f : X → ModuleItem) (xs ys : List X) (x : X) → ys ≡ xs ++ x ∷ [] → trees f ys ≡ joined (trees f xs) (item_tree (f x) ⊳ ε)
 pushed_item f xs ys x is = ap (trees f) is ∙ pushed (λ y. item_tree (f y)) xs x
 
--- a statement as one
-pub pushed_statement : {X : Type 0} (f : X → ModuleItem) (xs ys : List X) (x : X) (s : Stmt) → ys ≡ xs ++ x ∷ [] → f x ≡ items.Stmt s → trees f ys ≡ joined (trees f xs) (stmt_tree s ⊳ ε)
-pushed_statement f xs ys x s is same = pushed_item f xs ys x is ∙ ap (λ y. joined (trees f xs) (item_tree y ⊳ ε)) same
+-- what is made of a statement
+pub pushed_statement : {X : Type 0} (f : X → ModuleItem) {made : Stmt → X} → ((s : Stmt) → f (made s) ≡ items.Stmt s) → (xs ys : List X) (x : X) (s : Stmt) → ys ≡ xs ++ x ∷ [] → x ≡ made s → trees f ys ≡ joined (trees f xs) (stmt_tree s ⊳ ε)
+pushed_statement f made_is xs ys x s is same = pushed_item f xs ys x is ∙ ap (λ y. joined (trees f xs) (item_tree y ⊳ ε)) (ap f same ∙ made_is s)

@@ -1,5 +1,5 @@
 //! What stands behind a statement that ends its list.
-ghost use Rattle.std.specs.Prelude.{◌≡◌, ◌++◌, true, IfOk, OnOk};
+ghost use Rattle.std.specs.Prelude.{◌≡◌, ◌∷◌, ◌++◌, [], true, IfOk, OnOk};
 ghost use Rattle.std.specs.Vec.Iter.{into_iter_items};
 ghost use Rattle.swc_ast.specs.Modules.{item_tree};
 ghost use Rattle.swc_ast.specs.Scope.{joined};
@@ -7,11 +7,13 @@ ghost use Rattle.swc_ast.specs.Statements.{var_tree};
 ghost use Rattle.swc_ast.specs.Tree.{ε, ◌⊳◌};
 ghost use Rattle.swc_ast.specs.Views.{decl_tree, expr_tree, stmt_tree};
 ghost use Rattle.swc_ast.specs.Weight.{is_stopper};
+ghost use Rattle.stmt_like.specs.Kept.{Kept};
 ghost use Rattle.branch_rules.specs.Lists.{Cut, going, staying};
 ghost use Rattle.branch_rules.specs.Vars as vars;
 ghost use Rattle.branch_vars.specs.Names.{names_of, statements};
 ghost use Rattle.branch_lists.specs.Cuts.{CutsOnto, going_names, picked};
 ghost use Rattle.branch_lists.specs.Exports.{among};
+ghost use Rattle.branch_lists.specs.Onto.{Onto};
 ghost use Rattle.branch_lists.specs.Swept.{trees};
 
 use crate::exports::is_among;
@@ -106,7 +108,8 @@ fn declare_behind<T: StmtLike>(
 }
 
 fn push_if_staying<T: StmtLike + Drop>(item: T, out: &mut Vec<T>) -> Result<(), AllocError>
-    ensures { OnOk result (trees T.item out.new.items ≡ joined (trees T.item out.old.items) (staying (item_tree (T.item item) ⊳ ε))) }
+    ensures staying { OnOk result (trees T.item out.new.items ≡ joined (trees T.item out.old.items) (staying (item_tree (T.item item) ⊳ ε))) }
+    ensures kept { OnOk result (Onto T.made (item ∷ []) out.old.items out.new.items) }
 {
     if stays(&item) {
         out.push(item)?;
@@ -116,7 +119,8 @@ fn push_if_staying<T: StmtLike + Drop>(item: T, out: &mut Vec<T>) -> Result<(), 
 
 /// Adds the items that stay.
 fn push_staying<T: StmtLike + Drop>(items: Vec<T>, out: &mut Vec<T>) -> Result<(), AllocError>
-    ensures { OnOk result (trees T.item out.new.items ≡ joined (trees T.item out.old.items) (staying (trees T.item items.items))) }
+    ensures staying { OnOk result (trees T.item out.new.items ≡ joined (trees T.item out.old.items) (staying (trees T.item items.items))) }
+    ensures kept { OnOk result (Onto T.made items.items out.old.items out.new.items) }
 {
     for item in items {
         push_if_staying(item, out)?;
@@ -124,9 +128,9 @@ fn push_staying<T: StmtLike + Drop>(items: Vec<T>, out: &mut Vec<T>) -> Result<(
     Ok(())
 }
 
-#[tactic(auto, using(swc_utils::proofs::Chains::joined_none, crate::proofs::Turns::pushed_statement))]
 fn push_optional<T: StmtLike + Drop>(s: Option<Stmt>, out: &mut Vec<T>) -> Result<(), AllocError>
-    ensures { OnOk result (trees T.item out.new.items ≡ joined (trees T.item out.old.items) (statements s)) }
+    ensures pushed { OnOk result (trees T.item out.new.items ≡ joined (trees T.item out.old.items) (statements s)) }
+    ensures made { OnOk result (Onto T.made [] out.old.items out.new.items) }
 {
     if let Some(s) = s {
         out.push(T::from(s))?;
@@ -144,7 +148,8 @@ fn push_cut<T: StmtLike + Drop>(
     out: &mut Vec<T>,
 ) -> Result<(), AllocError>
     requires { is_stopper (item_tree (T.item stopper)) ≡ true }
-    ensures { OnOk result (CutsOnto (among kept.now) (item_tree (T.item stopper) ⊳ trees T.item behind.items) (trees T.item out.old.items) (trees T.item out.new.items)) }
+    ensures cuts { OnOk result (CutsOnto (among kept.now) (item_tree (T.item stopper) ⊳ trees T.item behind.items) (trees T.item out.old.items) (trees T.item out.new.items)) }
+    ensures kept { OnOk result (Onto T.made (stopper ∷ behind.items) out.old.items out.new.items) }
 {
     let names = declare_behind(alloc, &behind, kept)?;
     push_optional(names, out)?;
@@ -170,7 +175,8 @@ pub(crate) fn cut<T: StmtLike + Drop>(
     items: Vec<T>,
     kept: &[Id],
 ) -> Result<Vec<T>, AllocError>
-    ensures { IfOk result (λ r. Cut (among kept.now) (trees T.item items.items) (trees T.item r.items)) }
+    ensures cuts { IfOk result (λ r. Cut (among kept.now) (trees T.item items.items) (trees T.item r.items)) }
+    ensures kept { IfOk result (λ r. Kept T.made items.items r.items) }
 {
     let mut out = Vec::new(alloc);
     let mut rest = items.into_iter();

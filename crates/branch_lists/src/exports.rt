@@ -2,10 +2,9 @@
 ghost use Rattle.std.specs.Prelude.{◌≡◌, ◌++◌, ◌∷◌, [], IfOk, OnOk};
 ghost use Rattle.swc_ast.specs.Modules.{export_specifier_tree, module_decl_tree};
 ghost use Rattle.swc_ast.specs.Parts.{ident_name, list_trees};
-ghost use Rattle.swc_ast.specs.Scope.{default_name, declarator_names, has_name};
-ghost use Rattle.swc_ast.specs.Statements.{declarator_tree};
+ghost use Rattle.swc_ast.specs.Scope.{default_name, has_name};
 ghost use Rattle.swc_ast.specs.Tree.{same_name, ExportDecl, ε, ◌⊳◌};
-ghost use Rattle.swc_ast.specs.Views.{decl_tree, expr_tree};
+ghost use Rattle.swc_ast.specs.Views.{decl_tree};
 ghost use Rattle.branch_lists.specs.Exports.{id_name, ids, names_by, names_by_label, specified, names_of_declarators, exported_names as all_names};
 ghost use Rattle.branch_lists.specs.Swept.{trees};
 

@@ -1,9 +1,11 @@
 //! Empty statements and blocks that declare nothing.
-ghost use Rattle.std.specs.Prelude.{◌≡◌, IfOk, OnOk};
+ghost use Rattle.std.specs.Prelude.{◌≡◌, ◌∷◌, [], IfOk, OnOk};
 ghost use Rattle.swc_ast.specs.Modules.{item_tree};
 ghost use Rattle.swc_ast.specs.Parts.{list_trees};
 ghost use Rattle.swc_ast.specs.Scope.{joined};
 ghost use Rattle.swc_ast.specs.Views.{stmt_tree};
+ghost use Rattle.stmt_like.specs.Kept.{Kept};
+ghost use Rattle.branch_lists.specs.Onto.{Onto};
 ghost use Rattle.branch_lists.specs.Swept.{trees, contents, swept_item, swept};
 
 use crate::looks::is_loose;
@@ -26,7 +28,8 @@ fn contents_of(alloc: Global, s: Stmt) -> Vec<Stmt>
 
 /// Adds statements to items.
 fn push_stmts<T: StmtLike + Drop>(stmts: Vec<Stmt>, out: &mut Vec<T>) -> Result<(), AllocError>
-    ensures { OnOk result (trees T.item out.new.items ≡ joined (trees T.item out.old.items) (list_trees stmt_tree stmts.items)) }
+    ensures pushed { OnOk result (trees T.item out.new.items ≡ joined (trees T.item out.old.items) (list_trees stmt_tree stmts.items)) }
+    ensures made { OnOk result (Onto T.made [] out.old.items out.new.items) }
 {
     for s in stmts {
         out.push(T::from(s))?;
@@ -40,7 +43,8 @@ fn push_swept<T: StmtLike + Drop>(
     item: T,
     out: &mut Vec<T>,
 ) -> Result<(), AllocError>
-    ensures { OnOk result (trees T.item out.new.items ≡ joined (trees T.item out.old.items) (swept_item (item_tree (T.item item)))) }
+    ensures swept { OnOk result (trees T.item out.new.items ≡ joined (trees T.item out.old.items) (swept_item (item_tree (T.item item)))) }
+    ensures kept { OnOk result (Onto T.made (item ∷ []) out.old.items out.new.items) }
 {
     if !is_loose(&item) {
         out.push(item)?;
@@ -54,7 +58,8 @@ fn push_swept<T: StmtLike + Drop>(
 
 /// A list without empty statements, and with the statements of each block that declares nothing in the block's place.
 pub(crate) fn sweep<T: StmtLike + Drop>(alloc: Global, items: Vec<T>) -> Result<Vec<T>, AllocError>
-    ensures { IfOk result (λ r. trees T.item r.items ≡ swept (trees T.item items.items)) }
+    ensures swept { IfOk result (λ r. trees T.item r.items ≡ swept (trees T.item items.items)) }
+    ensures kept { IfOk result (λ r. Kept T.made items.items r.items) }
 {
     let mut out = Vec::new(alloc);
     for item in items {

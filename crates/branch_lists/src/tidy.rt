@@ -1,8 +1,9 @@
 //! Lists of statements, and items of modules.
-ghost use Rattle.std.specs.Prelude.{IfOk};
+ghost use Rattle.std.specs.Prelude.{IfOk, OnOk};
 ghost use Rattle.swc_ast.specs.Parts.{list_trees};
 ghost use Rattle.swc_ast.specs.Tree.{Module};
 ghost use Rattle.swc_ast.specs.Views.{stmt_tree};
+ghost use Rattle.stmt_like.specs.Kept.{Kept};
 ghost use Rattle.branch_rules.specs.Lists.{kept_names};
 ghost use Rattle.branch_lists.specs.Tidy.{ListTidied, nothing_kept};
 ghost use Rattle.branch_lists.specs.Swept.{trees};
@@ -21,7 +22,8 @@ use swc_ast::Stmt;
 /// its names of `var`, and those of `let` and `const` that the module exports, stand in front of that statement. False: the
 /// list is as it was, and there is nothing to tidy. Fails where memory is refused.
 pub fn tidy_items<T: StmtLike + Drop>(alloc: Global, items: &mut Vec<T>) -> Result<bool, AllocError>
-    ensures { IfOk result (λ changed. ListTidied (kept_names Module (trees T.item items.old.items)) changed (trees T.item items.old.items) (trees T.item items.new.items)) }
+    ensures tidied { IfOk result (λ changed. ListTidied (kept_names Module (trees T.item items.old.items)) changed (trees T.item items.old.items) (trees T.item items.new.items)) }
+    ensures kept { OnOk result (Kept T.made items.old.items items.new.items) }
 {
     if !is_untidy(items) {
         return Ok(false);

@@ -9,4 +9,3 @@ pub mod Depths
 pub mod Opening
 pub mod Valued
 pub mod Idle
-pub mod Shielded

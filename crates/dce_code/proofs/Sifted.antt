@@ -8,6 +8,9 @@ use Rattle.swc_ast.specs.Valid.{count}
 use Rattle.walk_proofs.specs.Meant.{Sifts, sifted, stays_there, goes_there}
 use Rattle.swc_ast.specs.Tree.{Block, Import, Text}
 use Rattle.swc_ast.specs.declared.Span.{Span}
+use Rattle.swc_ast.specs.declared.statements.Stmt.{Stmt}
+use Rattle.stmt_like.specs.Kept.{Kept}
+use Rattle.stmt_like.proofs.Kept.{kept_filter}
 use Rattle.static_proofs.specs.Names.{is_some_tree}
 use Rattle.tree_walk.specs.Walks.{Became}
 use Rattle.dce_rules.specs.Shakes.{Shaker, goes_plainly, item_goes, some_go, some_item_goes, import_goes, items_go, specifiers_go, shake_pass}
@@ -48,14 +51,6 @@ fewer f G (x ∷ xs) h = by (G (f x)) h (fewer f G xs)
 pub changes : {X : Type 0} (f : X → Tree) (G : Tree → Bool) (xs : List X) → any_goes G (list_trees f xs) ≡ true → list_trees f (filter (λ x. not (G (f x))) xs) ≡ list_trees f xs → ⊥
 changes f G xs h e = omega (arith, fewer f G xs h, sym (counts f (filter (λ x. not (G (f x))) xs)), ap count e, counts f xs)
 
--- where as many stay as there were, none goes
-pub none_goes : {X : Type 0} (f : X → Tree) (G : Tree → Bool) (xs : List X) → length xs ≤ length (filter (λ x. not (G (f x))) xs) → any_goes G (list_trees f xs) ≡ false
-none_goes f G xs h = by (any_goes G (list_trees f xs)) refl
-  where
-    by : (b : Bool) → any_goes G (list_trees f xs) ≡ b → any_goes G (list_trees f xs) ≡ false
-    by false e = e
-    by true e = absurd (omega (arith, h, fewer f G xs e))
-
 -- and the list stays
 pub all_stay : {X : Type 0} (f : X → Tree) (G : Tree → Bool) (xs : List X) → any_goes G (list_trees f xs) ≡ false → filter (λ x. not (G (f x))) xs ≡ xs
 all_stay f G [] h = refl
@@ -78,6 +73,10 @@ sifted_by f G b xs ys m n e p q is = by (any_goes G (list_trees f xs)) refl
     by : (c : Bool) → any_goes G (list_trees f xs) ≡ c → Sifted G b (list_trees f xs) (list_trees f ys)
     by true h = subst (λ d. Sifted G d (list_trees f xs) (list_trees f ys)) (sym (is ∙ lt-ltb m n (omega (arith, fewer f G xs h, ap length e, p, q)))) (gone_by f G xs ys e h)
     by false h = subst (λ d. Sifted G d (list_trees f xs) (list_trees f ys)) (sym (is ∙ le-ltb m n (omega (arith, ap length (all_stay f G xs h), ap length e, p, q)))) (kept_by f G xs ys e h)
+
+-- each item that stays is one of the list
+pub kept_sifted : {X : Type 0} (made : Stmt → X) (f : X → Tree) (G : Tree → Bool) (xs ys : List X) → ys ≡ filter (λ x. not (G (f x))) xs → Kept made xs ys
+kept_sifted made f G xs ys e = subst (Kept made xs) (sym e) (kept_filter made (λ x. not (G (f x))) xs)
 
 -- the tests of lists
 

@@ -4,6 +4,7 @@ ghost use Rattle.swc_ast.specs.Modules.{import_specifier_tree, import_tree, item
 ghost use Rattle.swc_ast.specs.Parts.{list_trees};
 ghost use Rattle.swc_ast.specs.Views.{decl_tree, stmt_tree};
 ghost use Rattle.static_proofs.specs.Names.{is_some_tree};
+ghost use Rattle.stmt_like.specs.Kept.{Kept};
 ghost use Rattle.tree_walk.specs.Walks.{Became};
 ghost use Rattle.dce_rules.specs.Shakes.{all_go, import_goes, item_goes as tree_goes, goes_plainly, shake_pass};
 ghost use Rattle.dce_code.specs.Knowledge.{shaker};
@@ -112,7 +113,8 @@ impl<'a> Known<'a> {
 
     /// Drops the items that go from their list. False: none goes, and the list is as it was.
     pub fn drop_items<T: StmtLike + Drop>(&self, items: &mut Vec<T>) -> bool
-        ensures { ListShaken (shaker self.now) result (trees T.item items.old.items) (trees T.item items.new.items) }
+        ensures shaken { ListShaken (shaker self.now) result (trees T.item items.old.items) (trees T.item items.new.items) }
+        ensures kept { Kept T.made items.old.items items.new.items }
     {
         let before = items.len();
         items.retain(|item| !self.item_goes(item));

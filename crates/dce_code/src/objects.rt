@@ -1,5 +1,5 @@
 //! Calls that give an object of names.
-ghost use Rattle.std.specs.Prelude.{◌≡◌, IfSome, IsNone, IsTrue, List, None as Nameless, [], ◌∷◌};
+ghost use Rattle.std.specs.Prelude.{◌≡◌, IfSome, IsNone, IsTrue, List, None as Nameless, []};
 ghost use Rattle.swc_ast.specs.Expressions.{call_tree, fn_expr_tree, key_value_tree};
 ghost use Rattle.swc_ast.specs.Parts.{list_trees};
 ghost use Rattle.swc_ast.specs.Tree.{Fn, Key, KeyValue, PlainKey, Return, node, ε, ◌⊳◌};

@@ -5,7 +5,8 @@ use Rattle.swc_ast.specs.Scope.{has_name}
 use Rattle.static_proofs.proofs.Names.{has_name_append}
 use Rattle.dce_uses.specs.declared.tally.Fact.{Fact}
 use Rattle.dce_uses.specs.declared.table.Table.{Table}
-use Rattle.dce_uses.specs.Tables.{Notes, IsNumbered, fact_of}
+use Rattle.dce_uses.specs.Tables.{Extends, Notes, IsNumbered, fact_of}
+use Rattle.dce_uses.proofs.Extending.{extends_itself, extends_more}
 
 -- truth values
 
@@ -37,29 +38,32 @@ and_or false b c = refl
 
 -- nothing was noted
 pub nothing : (u : Table) (more : Fact → Name → Bool) → ((f : Fact) (x : Name) → more f x ≡ false) → Notes u u more
-nothing u more h = record { numbered = λ k. k; facts = λ k f x. sym (ap (λ b. fact_of u f x || b) (h f x) ∙ or_false (fact_of u f x)) }
+nothing u more h = record { names = extends_itself u.names; numbered = λ k. k; facts = λ k f x. sym (ap (λ b. fact_of u f x || b) (h f x) ∙ or_false (fact_of u f x)) }
 
 -- one thing after another
 pub next : (u v w : Table) (a b : Fact → Name → Bool) → Notes u v a → Notes v w b → Notes u w (λ f x. a f x || b f x)
 next u v w a b first second = record {
+  names = extends_more u.names v.names w.names first.names second.names;
   numbered = λ k. second.numbered (first.numbered k);
   facts = λ k f x. second.facts (first.numbered k) f x ∙ ap (λ c. c || b f x) (first.facts k f x) ∙ or_grouped (fact_of u f x) (a f x) (b f x);
 }
 
 -- the same facts, said otherwise
 pub said : (u v : Table) (a b : Fact → Name → Bool) → ((f : Fact) (x : Name) → a f x ≡ b f x) → Notes u v a → Notes u v b
-said u v a b same h = record { numbered = h.numbered; facts = λ k f x. h.facts k f x ∙ ap (λ c. fact_of u f x || c) (same f x) }
+said u v a b same h = record { names = h.names; numbered = h.numbered; facts = λ k f x. h.facts k f x ∙ ap (λ c. fact_of u f x || c) (same f x) }
 
 -- facts that are noted one after another: what is left
 pub record Going (u v : Table) (all left : Fact → Name → Bool) : Type 0 where
+  pub names : Extends u.names v.names
   pub numbered : IsNumbered u → IsNumbered v
   pub facts : IsNumbered u → (f : Fact) (x : Name) → (fact_of v f x || left f x) ≡ (fact_of u f x || all f x)
 
 pub begins : (u : Table) (all : Fact → Name → Bool) → Going u u all all
-begins u all = record { numbered = λ k. k; facts = λ k f x. refl }
+begins u all = record { names = extends_itself u.names; numbered = λ k. k; facts = λ k f x. refl }
 
 pub goes_on : (u v w : Table) (all here rest left : Fact → Name → Bool) → ((f : Fact) (x : Name) → left f x ≡ (here f x || rest f x)) → Notes v w here → Going u v all left → Going u w all rest
 goes_on u v w all here rest left split noted h = record {
+  names = extends_more u.names v.names w.names h.names noted.names;
   numbered = λ k. noted.numbered (h.numbered k);
   facts = λ k f x.
       ap (λ b. b || rest f x) (noted.facts (h.numbered k) f x) ∙ or_grouped (fact_of v f x) (here f x) (rest f x)
@@ -68,6 +72,7 @@ goes_on u v w all here rest left split noted h = record {
 
 pub ends : (u v : Table) (all left : Fact → Name → Bool) → ((f : Fact) (x : Name) → left f x ≡ false) → Going u v all left → Notes u v all
 ends u v all left none h = record {
+  names = h.names;
   numbered = h.numbered;
   facts = λ k f x. sym (ap (λ b. fact_of v f x || b) (none f x) ∙ or_false (fact_of v f x)) ∙ h.facts k f x;
 }

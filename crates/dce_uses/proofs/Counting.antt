@@ -16,6 +16,7 @@ use Rattle.dce_uses.specs.Noted.{is_hiding, by_arguments, own, unnamed, is_count
 use Rattle.dce_uses.specs.Listed.{listed}
 use Rattle.dce_uses.specs.Tables.{IsNumbered, Notes, Restores, IsBefore, fact_of, holds}
 use Rattle.dce_uses.proofs.Adding.{or_false, and_false, and_or, next, said, nothing, none_named, Going, goes_on, ends}
+use Rattle.dce_uses.proofs.Extending.{extends_more}
 
 -- facts of some names by themselves
 abbrev pub alone : (Fact → Bool) → List Name → Fact → Name → Bool
@@ -74,7 +75,7 @@ restored old new false before m known h = h
 -- a node by its parts
 pub counted_so : (u s v r w : Table) (p q : Place) (l : Label) (cs : Forest) (xs : List Name) (before : Tally) → xs ≡ function_name l → q ≡ below p l → IsBefore u xs before → Notes u s (λ f x. own f x p l) → Notes s v (λ f x. noted_among f x q cs) → Notes v r (λ f x. unnamed f x p l cs) → Restores r w xs before → Notes u w (λ f x. noted f x p (node l [] cs))
 counted_so u s v r w p q l cs xs before function inside known own_noted among_noted unnamed_noted back =
-    record { numbered = λ k. back.numbered (three.numbered k); facts = by }
+    record { names = extends_more u.names r.names w.names three.names back.names; numbered = λ k. back.numbered (three.numbered k); facts = by }
   where
     more : Fact → Name → Bool
     more f x = (own f x p l || noted_among f x q cs) || unnamed f x p l cs

@@ -1,3 +1,4 @@
+pub mod Extending
 mod Adding
 mod Counting
 mod Numbering
@@ -8,4 +9,6 @@ mod Lists
 mod Telling
 mod Told
 mod Items
+mod Rows
+pub mod Saying
 mod Unexported

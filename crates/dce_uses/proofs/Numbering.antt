@@ -1,12 +1,12 @@
 -- Facts of names by their numbers.
-use Rattle.std.proofs.Common.{◌≡◌, ℕ, zero, suc, ◌+◌, ◌<◌, ◌≤◌, Bool, true, false, not, cond, ◌||◌, ◌&&◌, List, [], ◌∷◌, ◌++◌, length, get_or, slice_get, slice_set, slice_index_or, vec_len, position, Option, Some, None, refl, sym, ap, ap₂, ◌∙◌, arith}
-use Rattle.std.specs.Prelude.{if◌then◌else◌, option_map, option_and_then, unwrap_or, nat_lt}
+use Rattle.std.proofs.Common.{◌≡◌, ℕ, zero, suc, ◌+◌, ◌-◌, ◌<◌, ◌≤◌, Bool, true, false, not, cond, ◌||◌, ◌&&◌, List, [], ◌∷◌, ◌++◌, length, get_or, take, replicate, slice_get, slice_set, slice_index_or, vec_len, position, Option, Some, None, refl, sym, ap, ap₂, subst, ◌∙◌, arith}
+use Rattle.std.specs.Prelude.{if◌then◌else◌, option_map, option_and_then, unwrap_or, nat_lt, nat_eq}
 use Rattle.std.specs.List.{position_or_len}
 use Rattle.std.specs.Vec.{with_item}
-use Rattle.std.proofs.lemmas.Bool.{or_parts, ltb-true, lt-ltb, false≢true}
-use Rattle.std.proofs.lemmas.List.{length-append, length-set}
+use Rattle.std.proofs.lemmas.Bool.{or_parts, or_left, or_right, ltb-true, lt-ltb, eqb-true, eq-eqb, false_from_ne_true, false≢true}
+use Rattle.std.proofs.lemmas.List.{length-append, length-set, length-replicate, take_all}
 use Rattle.std.proofs.lemmas.List.Quantifiers.{position-Some}
-use Rattle.std.proofs.lemmas.Option.{same_Some, cond_some, slice_get-get_or, slice_get_read, slice_get_past}
+use Rattle.std.proofs.lemmas.Option.{same_Some, cond_some, slice_get-get_or, slice_get_read}
 use Rattle.swc_ast.specs.Tree.{Name, same_name}
 use Rattle.swc_ast.specs.Scope.{has_name}
 use Rattle.static_proofs.proofs.Names.{same_name_path, same_name_itself}
@@ -15,9 +15,11 @@ use Rattle.dce_uses.specs.declared.tally.Fact.{Fact}
 use Rattle.dce_uses.specs.declared.tally.Tally.{Tally}
 use Rattle.dce_uses.specs.declared.table.Table.{Table}
 use Rattle.dce_uses.specs.Noted.{is_counted}
-use Rattle.dce_uses.specs.Tables.{IsBlank, IsNumbered, Notes, Numbers, Restores, fact_of, tally_of, holds}
-use Rattle.dce_uses.proofs.Adding.{or_false, and_false}
+use Rattle.dce_uses.specs.Said.{is_number}
+use Rattle.dce_uses.specs.Tables.{Extends, IsBlank, IsNumbered, Notes, Numbers, Restores, Touches, fact_at, fact_of, has_number, holds}
+use Rattle.dce_uses.proofs.Adding.{or_false, or_grouped, and_false}
 use Rattle.dce_uses.proofs.Counting.{alone}
+use Rattle.dce_uses.proofs.Extending.{extends_as, extends_itself, longer}
 
 -- where a name stands among others
 
@@ -38,24 +40,24 @@ nowhere x (y ∷ ys) h =
     let inner = nowhere x ys p.1 in
     omega (arith, inner, ap (λ b. cond (not b) (1 + position_or_len (same_name x) ys) 0) p.0)
 
--- the same where one name more stands behind them
+-- the same where more names stand behind them
 
-in_front_more : (x y z : Name) (zs : List Name) (b : Bool) → same_name x z ≡ b → (b ≡ false → position_or_len (same_name x) (zs ++ y ∷ []) ≡ position_or_len (same_name x) zs) → position_or_len (same_name x) ((z ∷ zs) ++ y ∷ []) ≡ position_or_len (same_name x) (z ∷ zs)
-in_front_more x y z zs true is rest =
-    ap (λ b. cond (not b) (1 + position_or_len (same_name x) (zs ++ y ∷ [])) 0) is
+in_front_more : (x z : Name) (zs more : List Name) (b : Bool) → same_name x z ≡ b → (b ≡ false → position_or_len (same_name x) (zs ++ more) ≡ position_or_len (same_name x) zs) → position_or_len (same_name x) ((z ∷ zs) ++ more) ≡ position_or_len (same_name x) (z ∷ zs)
+in_front_more x z zs more true is rest =
+    ap (λ b. cond (not b) (1 + position_or_len (same_name x) (zs ++ more)) 0) is
     ∙ sym (ap (λ b. cond (not b) (1 + position_or_len (same_name x) zs) 0) is)
-in_front_more x y z zs false is rest = ap (λ n. cond (not (same_name x z)) (1 + n) 0) (rest refl)
+in_front_more x z zs more false is rest = ap (λ n. cond (not (same_name x z)) (1 + n) 0) (rest refl)
 
-in_front : (x y : Name) (ns : List Name) → has_name x ns ≡ true → position_or_len (same_name x) (ns ++ y ∷ []) ≡ position_or_len (same_name x) ns
-in_front x y [] h = absurd (false≢true h)
-in_front x y (z ∷ zs) h = in_front_more x y z zs (same_name x z) refl (λ none. in_front x y zs (sym (ap (λ b. b || has_name x zs) none) ∙ h))
+in_front : (x : Name) (ns more : List Name) → has_name x ns ≡ true → position_or_len (same_name x) (ns ++ more) ≡ position_or_len (same_name x) ns
+in_front x [] more h = absurd (false≢true h)
+in_front x (z ∷ zs) more h = in_front_more x z zs more (same_name x z) refl (λ none. in_front x zs more (sym (ap (λ b. b || has_name x zs) none) ∙ h))
 
-behind : (x y : Name) (ns : List Name) → has_name x ns ≡ false → position_or_len (same_name x) (ns ++ y ∷ []) ≡ length ns + position_or_len (same_name x) (y ∷ [])
-behind x y [] h = omega arith
-behind x y (z ∷ zs) h =
+behind : (x : Name) (ns more : List Name) → has_name x ns ≡ false → position_or_len (same_name x) (ns ++ more) ≡ length ns + position_or_len (same_name x) more
+behind x [] more h = omega arith
+behind x (z ∷ zs) more h =
     let p = or_parts (same_name x z) (has_name x zs) h in
-    let inner = behind x y zs p.1 in
-    omega (arith, inner, ap (λ b. cond (not b) (1 + position_or_len (same_name x) (zs ++ y ∷ [])) 0) p.0)
+    let inner = behind x zs more p.1 in
+    omega (arith, inner, ap (λ b. cond (not b) (1 + position_or_len (same_name x) (zs ++ more)) 0) p.0)
 
 -- numbers by places
 
@@ -69,106 +71,134 @@ unnumbered p xs is = by (nat_lt (position_or_len p xs) (length xs)) refl
     by true low = let less = ltb-true (position_or_len p xs) (length xs) low in absurd (omega (arith, less, is))
     by false high = ap (λ b. cond b (Some (position_or_len p xs)) None) high
 
-within : (x : Name) (ns : List Name) (n : ℕ) → position (same_name x) ns ≡ Some n → n < length ns
+pub within : (x : Name) (ns : List Name) (n : ℕ) → position (same_name x) ns ≡ Some n → n < length ns
 within x ns n is = (position-Some (same_name x) ns n x is).0
+
+place_of : (y : Name) (ns : List Name) (n : ℕ) → position (same_name y) ns ≡ Some n → position_or_len (same_name y) ns ≡ n
+place_of y ns n is = (cond_some (nat_lt (position_or_len (same_name y) ns) (length ns)) (position_or_len (same_name y) ns) n is).1
+
+-- what holds of no number behind those of some names holds of a name's number as before, where more names stand behind
+pub same_among : (x : Name) (ns ms : List Name) (g : Option ℕ → Bool) → Extends ns ms → g None ≡ false → ((n : ℕ) → length ns ≤ n → g (Some n) ≡ false) → g (position (same_name x) ms) ≡ g (position (same_name x) ns)
+same_among x ns ms g e none high = ap (λ ks. g (position (same_name x) ks)) e.is ∙ by (has_name x ns) refl
+  where
+    late : has_name x ns ≡ false → (o : Option ℕ) → position (same_name x) (ns ++ e.more) ≡ o → g o ≡ false
+    late away None is = none
+    late away (Some n) is =
+        let place = behind x ns e.more away in
+        let at = place_of x (ns ++ e.more) n is in
+        high n (omega (arith, place, at))
+
+    by : (b : Bool) → has_name x ns ≡ b → g (position (same_name x) (ns ++ e.more)) ≡ g (position (same_name x) ns)
+    by true is =
+        let low = among x ns is in
+        ap g (numbered_at (same_name x) (ns ++ e.more) (position_or_len (same_name x) ns) (in_front x ns e.more is) (omega (arith, low, length-append ns e.more)))
+        ∙ sym (ap g (numbered_at (same_name x) ns (position_or_len (same_name x) ns) refl low))
+    by false away =
+        late away (position (same_name x) (ns ++ e.more)) refl
+        ∙ sym (ap g (unnumbered (same_name x) ns (nowhere x ns away)) ∙ none)
 
 -- what was noted of the name that has a number, if one has
 abbrev pub fact_in : List Tally → Option ℕ → Fact → Bool
 fact_in ts o f = unwrap_or (option_map (λ t. holds t f) (option_and_then (slice_get ts) o)) false
 
--- one tally more
+-- nothing was noted where no tallies are
+pub past : (ts : List Tally) (f : Fact) (n : ℕ) → length ts ≤ n → fact_at ts f n ≡ false
+past [] f n h = refl
+past (t ∷ ts) f zero h = absurd (omega (arith, h))
+past (t ∷ ts) f (suc n) h = past ts f n (omega (arith, h))
 
-got_in_front : (ts : List Tally) (e : Tally) (n : ℕ) → n < length ts → slice_get (ts ++ e ∷ []) n ≡ slice_get ts n
-got_in_front [] e n h = absurd (omega (arith, h))
-got_in_front (t ∷ ts) e zero h = refl
-got_in_front (t ∷ ts) e (suc n) h = got_in_front ts e n (omega (arith, h))
+-- the same at each number, so of each name
+pub same_in : (ts us : List Tally) (f : Fact) → ((n : ℕ) → fact_at ts f n ≡ fact_at us f n) → (o : Option ℕ) → fact_in ts o f ≡ fact_in us o f
+same_in ts us f h None = refl
+same_in ts us f h (Some n) = h n
 
-got_last : (ts : List Tally) (e : Tally) → slice_get (ts ++ e ∷ []) (length ts) ≡ Some e
-got_last [] e = refl
-got_last (t ∷ ts) e = got_last ts e
+-- a number is touched
 
-pushed_among : (x y : Name) (ns : List Name) (ts : List Tally) (e : Tally) (f : Fact) → length ts ≡ length ns → has_name x ns ≡ true → fact_in (ts ++ e ∷ []) (position (same_name x) (ns ++ y ∷ [])) f ≡ fact_in ts (position (same_name x) ns) f
-pushed_among x y ns ts e f len is =
-    let n = position_or_len (same_name x) ns in
-    let low = among x ns is in
-    ap (λ o. fact_in (ts ++ e ∷ []) o f) (numbered_at (same_name x) (ns ++ y ∷ []) n (in_front x y ns is) (omega (arith, low, length-append ns (y ∷ []))))
-    ∙ ap (λ o. unwrap_or (option_map (λ t. holds t f) o) false) (got_in_front ts e n (omega (arith, low, len)))
-    ∙ sym (ap (λ o. fact_in ts o f) (numbered_at (same_name x) ns n refl low))
+pub has_append : (n : ℕ) (ms ks : List ℕ) → has_number n (ms ++ ks) ≡ (has_number n ms || has_number n ks)
+has_append n [] ks = refl
+has_append n (m ∷ ms) ks = ap (λ b. nat_eq n m || b) (has_append n ms ks) ∙ sym (or_grouped (nat_eq n m) (has_number n ms) (has_number n ks))
 
-pushed_itself : (x y : Name) (ns : List Name) (ts : List Tally) (e : Tally) (f : Fact) → length ts ≡ length ns → holds e f ≡ false → has_name x ns ≡ false → same_name x y ≡ true → fact_in (ts ++ e ∷ []) (position (same_name x) (ns ++ y ∷ [])) f ≡ false
-pushed_itself x y ns ts e f len none away same =
-    let place = behind x y ns away in
-    let first : position_or_len (same_name x) (y ∷ []) ≡ 0 = ap (λ b. cond (not b) (1 + 0) 0) same in
-    ap (λ o. fact_in (ts ++ e ∷ []) o f) (numbered_at (same_name x) (ns ++ y ∷ []) (length ts) (omega (arith, place, first, len)) (omega (arith, len, length-append ns (y ∷ []))))
-    ∙ ap (λ o. unwrap_or (option_map (λ t. holds t f) o) false) (got_last ts e) ∙ none
+-- a number behind others is there, and the others are
+has_last : (n : ℕ) (ms : List ℕ) → has_number n (ms ++ n ∷ []) ≡ true
+has_last n ms = has_append n ms (n ∷ []) ∙ or_right (has_number n ms) (nat_eq n n || false) (or_left (nat_eq n n) false (eq-eqb n n refl))
 
-pushed_apart : (x y : Name) (ns : List Name) (ts : List Tally) (e : Tally) (f : Fact) → has_name x ns ≡ false → same_name x y ≡ false → fact_in (ts ++ e ∷ []) (position (same_name x) (ns ++ y ∷ [])) f ≡ false
-pushed_apart x y ns ts e f away apart =
-    let place = behind x y ns away in
-    let first : position_or_len (same_name x) (y ∷ []) ≡ 1 = ap (λ b. cond (not b) (1 + 0) 0) apart in
-    ap (λ o. fact_in (ts ++ e ∷ []) o f) (unnumbered (same_name x) (ns ++ y ∷ []) (omega (arith, place, first, length-append ns (y ∷ []))))
+still_has : (n m : ℕ) (ms : List ℕ) → has_number n ms ≡ true → has_number n (ms ++ m ∷ []) ≡ true
+still_has n m ms is = has_append n ms (m ∷ []) ∙ or_left (has_number n ms) (nat_eq n m || false) is
 
-pushed : (x y : Name) (ns : List Name) (ts : List Tally) (e : Tally) (f : Fact) → length ts ≡ length ns → holds e f ≡ false → fact_in (ts ++ e ∷ []) (position (same_name x) (ns ++ y ∷ [])) f ≡ fact_in ts (position (same_name x) ns) f
-pushed x y ns ts e f len none = by (has_name x ns) (same_name x y) refl refl
+-- more tallies, in which nothing was noted
+padded : (ts : List Tally) (k : ℕ) (e : Tally) (f : Fact) (n : ℕ) → holds e f ≡ false → fact_at (ts ++ replicate k e) f n ≡ fact_at ts f n
+padded [] zero e f n none = refl
+padded [] (suc k) e f zero none = none
+padded [] (suc k) e f (suc n) none = padded [] k e f n none
+padded (t ∷ ts) k e f zero none = refl
+padded (t ∷ ts) k e f (suc n) none = padded ts k e f n none
+
+-- a number that has a tally
+pub had_tally : (u v : Table) (n m : ℕ) → v.names ≡ u.names → v.tallies.items ≡ u.tallies.items → v.touched.items ≡ u.touched.items ++ n ∷ [] → n < m → m ≡ vec_len u.tallies → Touches u v n
+had_tally u v n m names tallies touched low len = record {
+  names = names;
+  within = omega (arith, low, len, u.tallies.ok.0, ap (λ ts. length ts) tallies);
+  touched = ap (has_number n) touched ∙ has_last n u.touched.items;
+  numbered = λ k. record {
+    within = omega (arith, k.within, ap (λ ts. length ts) tallies, ap (λ ns. length ns) names);
+    touched = λ f i is. ap (has_number i) touched ∙ still_has i n u.touched.items (k.touched f i (sym (ap (λ ts. fact_at ts f i) tallies) ∙ is));
+  };
+  facts = λ f i. ap (λ ts. fact_at ts f i) tallies;
+}
+
+-- another gets one, as do all
+pub got_tally : (u v : Table) (n m k : ℕ) (e : Tally) → v.names ≡ u.names → v.tallies.items ≡ take k u.tallies.items ++ replicate (k - vec_len u.tallies) e → v.touched.items ≡ u.touched.items ++ n ∷ [] → ((f : Fact) → holds e f ≡ false) → n < length u.names → k ≡ length u.names → m ≤ n → m ≡ vec_len u.tallies → Touches u v n
+got_tally u v n m k e names tallies touched none low all high len = record {
+  names = names;
+  within = omega (arith, low, all, long);
+  touched = ap (has_number n) touched ∙ has_last n u.touched.items;
+  numbered = λ h. record {
+    within = omega (arith, all, long, ap (λ ns. length ns) names);
+    touched = λ f i is. ap (has_number i) touched ∙ still_has i n u.touched.items (h.touched f i (sym (facts f i) ∙ is));
+  };
+  facts = facts;
+}
   where
-    before : has_name x ns ≡ false → fact_in ts (position (same_name x) ns) f ≡ false
-    before away = ap (λ o. fact_in ts o f) (unnumbered (same_name x) ns (nowhere x ns away))
+    longer : v.tallies.items ≡ u.tallies.items ++ replicate (k - vec_len u.tallies) e
+    longer = tallies ∙ ap (λ ts. ts ++ replicate (k - vec_len u.tallies) e) (take_all k u.tallies.items (omega (arith, low, all, high, len, u.tallies.ok.0)))
 
-    by : (b c : Bool) → has_name x ns ≡ b → same_name x y ≡ c → fact_in (ts ++ e ∷ []) (position (same_name x) (ns ++ y ∷ [])) f ≡ fact_in ts (position (same_name x) ns) f
-    by true c is same = pushed_among x y ns ts e f len is
-    by false true away same = pushed_itself x y ns ts e f len none away same ∙ sym (before away)
-    by false false away apart = pushed_apart x y ns ts e f away apart ∙ sym (before away)
+    long : length v.tallies.items ≡ k
+    long = omega (arith, ap (λ ts. length ts) longer, length-append u.tallies.items (replicate (k - vec_len u.tallies) e), length-replicate (k - vec_len u.tallies) e, low, all, high, len, u.tallies.ok.0)
+
+    facts : (f : Fact) (i : ℕ) → fact_at v.tallies.items f i ≡ fact_at u.tallies.items f i
+    facts f i = ap (λ ts. fact_at ts f i) longer ∙ padded u.tallies.items (k - vec_len u.tallies) e f i (none f)
+
+-- of each name the same was noted
+pub same_facts : (u v : Table) (n : ℕ) → Touches u v n → (f : Fact) (x : Name) → fact_of v f x ≡ fact_of u f x
+same_facts u v n h f x = ap (λ ns. fact_in v.tallies.items (position (same_name x) ns) f) h.names ∙ same_in v.tallies.items u.tallies.items f (h.facts f) (position (same_name x) u.names)
 
 -- a name gets a number
 
-added : (y : Name) (ns : List Name) (b : Bool) → has_name y ns ≡ b → with_name ns y ≡ (if b then ns else ns ++ y ∷ [])
-added y ns b is = ap (λ c. if c then ns else ns ++ y ∷ []) is
+added : (y : Name) (ns : List Name) (b : Bool) → has_name y ns ≡ b → Extends ns (with_name ns y)
+added y ns true is = extends_as ns (with_name ns y) (ap (λ c. if c then ns else ns ++ y ∷ []) is)
+added y ns false is = record { more = y ∷ []; is = ap (λ c. if c then ns else ns ++ y ∷ []) is }
 
-place_of : (y : Name) (ns : List Name) (n : ℕ) → position (same_name y) ns ≡ Some n → position_or_len (same_name y) ns ≡ n
-place_of y ns n is = (cond_some (nat_lt (position_or_len (same_name y) ns) (length ns)) (position_or_len (same_name y) ns) n is).1
+-- a table with other names
+abbrev pub with_names : Table → List Name → Table
+with_names u ns = record { names = ns; tallies = u.tallies; touched = u.touched }
 
--- a new name has the last number
-last_number : (y : Name) (ns ms : List Name) (n : ℕ) → ms ≡ ns ++ y ∷ [] → has_name y ns ≡ false → position (same_name y) ms ≡ Some n → n ≡ length ns
-last_number y ns ms n is away number =
-    let place = behind y y ns away in
-    let at = place_of y ms n number in
-    let same = ap (position_or_len (same_name y)) is in
-    let first : position_or_len (same_name y) (y ∷ []) ≡ 0 = ap (λ b. cond (not b) (1 + 0) 0) (same_name_itself y) in
-    omega (arith, place, at, same, first)
-
--- a name below the length has its number already
-pub had_number : (u v : Table) (y : Name) (n m : ℕ) → v.names ≡ with_name u.names y → v.tallies.items ≡ u.tallies.items → position (same_name y) v.names ≡ Some n → n < m → m ≡ vec_len u.tallies → Numbers u v y n
-had_number u v y n m names tallies number low len = record {
-  numbered = λ k. ap length tallies ∙ k ∙ sym (ap length (same k));
-  number = number;
-  facts = λ k f x. ap₂ (λ ts ns. fact_in ts (position (same_name x) ns) f) tallies (same k);
+pub got_number : (u v : Table) (y : Name) (ns : List Name) (n : ℕ) → ns ≡ with_name u.names y → position (same_name y) ns ≡ Some n → Touches (with_names u ns) v n → Numbers u v y n
+got_number u v y ns n names number h = record {
+  names = more;
+  within = h.within;
+  touched = h.touched;
+  numbered = λ k. h.numbered (record { within = omega (arith, k.within, longer u.names ns between); touched = k.touched });
+  number = ap (position (same_name y)) h.names ∙ number;
+  facts = λ k f x.
+      same_in v.tallies.items u.tallies.items f (h.facts f) (position (same_name x) v.names)
+      ∙ same_among x u.names v.names (λ o. fact_in u.tallies.items o f) more refl (λ i high. past u.tallies.items f i (omega (arith, high, k.within)));
 }
   where
-    by : IsNumbered u → (b : Bool) → has_name y u.names ≡ b → v.names ≡ u.names
-    by k true is = names ∙ added y u.names true is
-    by k false away =
-        let last = last_number y u.names v.names n (names ∙ added y u.names false away) away number in
-        absurd (omega (arith, low, len, k, u.tallies.ok.0, last))
+    between : Extends u.names ns
+    between = subst (Extends u.names) (sym names) (added y u.names (has_name y u.names) refl)
 
-    same : IsNumbered u → v.names ≡ u.names
-    same k = by k (has_name y u.names) refl
-
--- another gets the next one
-pub got_number : (u v : Table) (y : Name) (n m : ℕ) (e : Tally) → v.names ≡ with_name u.names y → v.tallies.items ≡ u.tallies.items ++ e ∷ [] → ((f : Fact) → holds e f ≡ false) → position (same_name y) v.names ≡ Some n → m ≤ n → m ≡ vec_len u.tallies → Numbers u v y n
-got_number u v y n m e names tallies none number high len = record {
-  numbered = λ k. ap length tallies ∙ length-append u.tallies.items (e ∷ []) ∙ ap (λ i. i + 1) k ∙ sym (ap length (more k) ∙ length-append u.names (y ∷ []));
-  number = number;
-  facts = λ k f x. ap₂ (λ ts ns. fact_in ts (position (same_name x) ns) f) tallies (more k) ∙ pushed x y u.names u.tallies.items e f k (none f);
-}
-  where
-    by : IsNumbered u → (b : Bool) → has_name y u.names ≡ b → v.names ≡ u.names ++ y ∷ []
-    by k false away = names ∙ added y u.names false away
-    by k true is =
-        let low = within y u.names n (ap (position (same_name y)) (sym (names ∙ added y u.names true is)) ∙ number) in
-        absurd (omega (arith, low, high, len, k, u.tallies.ok.0))
-
-    more : IsNumbered u → v.names ≡ u.names ++ y ∷ []
-    more k = by k (has_name y u.names) refl
+    more : Extends u.names v.names
+    more = subst (Extends u.names) (sym h.names) between
 
 -- the tally of a name changes
 
@@ -183,10 +213,24 @@ other_number x y ns m n apart at_x at_y same =
     let is : x ≡ y = same_Some x y (sym (named x ns m at_x) ∙ ap (slice_get ns) same ∙ named y ns n at_y) in
     false≢true (sym apart ∙ ap (same_name x) (sym is) ∙ same_name_itself x)
 
+-- whether a name has the number of another
+numbered_so : (x y : Name) (ns : List Name) (n : ℕ) → position (same_name y) ns ≡ Some n → is_number ns x n ≡ has_name x (y ∷ [])
+numbered_so x y ns n at = by (same_name x y) refl
+  where
+    other : same_name x y ≡ false → (o : Option ℕ) → position (same_name x) ns ≡ o → unwrap_or (option_map (nat_eq n) o) false ≡ false
+    other apart None is = refl
+    other apart (Some m) is = false_from_ne_true (nat_eq n m) (λ same. other_number x y ns m n apart is at (sym (eqb-true n m same)))
+
+    by : (b : Bool) → same_name x y ≡ b → is_number ns x n ≡ (same_name x y || false)
+    by true same =
+        ap (λ z. is_number ns z n) (same_name_path x y same) ∙ ap (λ o. unwrap_or (option_map (nat_eq n) o) false) at ∙ eq-eqb n n refl
+        ∙ sym (ap (λ b. b || false) same)
+    by false apart = other apart (position (same_name x) ns) refl ∙ sym (ap (λ b. b || false) apart)
+
 -- A table changes at one number.
-pub record Changes (u v : Table) (y : Name) (n : ℕ) (t w : Tally) : Type 0 where
+pub record Changes (u v : Table) (n : ℕ) (t w : Tally) : Type 0 where
   pub names : v.names ≡ u.names
-  pub number : position (same_name y) u.names ≡ Some n
+  pub touched : v.touched.items ≡ u.touched.items
   pub length : length v.tallies.items ≡ length u.tallies.items
   pub before : slice_get u.tallies.items n ≡ Some t
   pub after : slice_get v.tallies.items n ≡ Some w
@@ -207,131 +251,124 @@ untouched (t ∷ ts) (suc n) (suc k) w h = untouched ts n k w (λ e. h (ap suc e
 
 -- a table with another tally at a number
 abbrev pub with_tally : Table → ℕ → Tally → Table
-with_tally u n w = record { names = u.names; tallies = with_item u.tallies n w }
+with_tally u n w = record { names = u.names; tallies = with_item u.tallies n w; touched = u.touched }
 
-pub changes : (u : Table) (y : Name) (n m : ℕ) (t w : Tally) → position (same_name y) u.names ≡ Some n → n < m → m ≡ vec_len u.tallies → t ≡ slice_index_or u.tallies.items n t → Changes u (with_tally u n w) y n t w
-changes u y n m t w number low len read =
+pub changes : (u : Table) (n m : ℕ) (t w : Tally) → n < m → m ≡ vec_len u.tallies → t ≡ slice_index_or u.tallies.items n t → Changes u (with_tally u n w) n t w
+changes u n m t w low len read =
     let inside : n < length u.tallies.items = omega (arith, low, len, u.tallies.ok.0) in
     record {
       names = refl;
-      number = number;
+      touched = refl;
       length = length-set u.tallies.items n w;
       before = slice_get_read u.tallies.items (length u.tallies.items) n t refl inside read;
       after = written u.tallies.items n w inside;
       others = λ k h. untouched u.tallies.items n k w h;
     }
 
-looked_up : (u v : Table) (x : Name) → v.names ≡ u.names → tally_of v x ≡ option_and_then (slice_get v.tallies.items) (position (same_name x) u.names)
-looked_up u v x same = ap (λ ns. option_and_then (slice_get v.tallies.items) (position (same_name x) ns)) same
+-- whether a fact was noted in a tally, if there is one
+abbrev told : Fact → Option Tally → Bool
+told f o = unwrap_or (option_map (λ t. holds t f) o) false
 
-own_before : (u v : Table) (x y : Name) (n : ℕ) (t w : Tally) → Changes u v y n t w → same_name x y ≡ true → tally_of u x ≡ Some t
-own_before u v x y n t w h same = ap (λ z. option_and_then (slice_get u.tallies.items) (position (same_name z) u.names)) (same_name_path x y same) ∙ ap (option_and_then (slice_get u.tallies.items)) h.number ∙ h.before
-
-own_after : (u v : Table) (x y : Name) (n : ℕ) (t w : Tally) → Changes u v y n t w → same_name x y ≡ true → tally_of v x ≡ Some w
-own_after u v x y n t w h same = looked_up u v x h.names ∙ ap (λ z. option_and_then (slice_get v.tallies.items) (position (same_name z) u.names)) (same_name_path x y same) ∙ ap (option_and_then (slice_get v.tallies.items)) h.number ∙ h.after
-
-others_stay : (u v : Table) (x y : Name) (n : ℕ) (t w : Tally) → Changes u v y n t w → same_name x y ≡ false → tally_of v x ≡ tally_of u x
-others_stay u v x y n t w h apart = looked_up u v x h.names ∙ by (position (same_name x) u.names) refl
+-- what is told at each number
+pub changed_at : (u v : Table) (n : ℕ) (t w : Tally) → Changes u v n t w → (f : Fact) (m : ℕ) → fact_at v.tallies.items f m ≡ (if nat_eq n m then holds w f else fact_at u.tallies.items f m)
+changed_at u v n t w h f m = by (nat_eq n m) refl
   where
-    by : (o : Option ℕ) → position (same_name x) u.names ≡ o → option_and_then (slice_get v.tallies.items) o ≡ option_and_then (slice_get u.tallies.items) o
-    by None is = refl
-    by (Some m) is = h.others m (other_number x y u.names m n apart is h.number)
+    by : (b : Bool) → nat_eq n m ≡ b → fact_at v.tallies.items f m ≡ (if nat_eq n m then holds w f else fact_at u.tallies.items f m)
+    by true same =
+        ap (λ k. fact_at v.tallies.items f k) (sym (eqb-true n m same)) ∙ ap (told f) h.after
+        ∙ sym (ap (λ b. if b then holds w f else fact_at u.tallies.items f m) same)
+    by false apart =
+        ap (told f) (h.others m (λ e. false≢true (sym apart ∙ eq-eqb n m (sym e))))
+        ∙ sym (ap (λ b. if b then holds w f else fact_at u.tallies.items f m) apart)
 
-stays_numbered : (u v : Table) (y : Name) (n : ℕ) (t w : Tally) → Changes u v y n t w → IsNumbered u → IsNumbered v
-stays_numbered u v y n t w h k = h.length ∙ k ∙ sym (ap (λ ns. length ns) h.names)
+-- what is told of each name
+pub changed_of : (u v : Table) (n : ℕ) (t w : Tally) → Changes u v n t w → (f : Fact) (x : Name) → fact_of v f x ≡ (if is_number u.names x n then holds w f else fact_of u f x)
+changed_of u v n t w h f x = ap (λ ns. fact_in v.tallies.items (position (same_name x) ns) f) h.names ∙ by (position (same_name x) u.names)
+  where
+    by : (o : Option ℕ) → fact_in v.tallies.items o f ≡ (if unwrap_or (option_map (nat_eq n) o) false then holds w f else fact_in u.tallies.items o f)
+    by None = refl
+    by (Some m) = changed_at u v n t w h f m
 
--- facts of the name and of others
+-- what was told of the name of the number
+pub told_before : (u v : Table) (n : ℕ) (t w : Tally) → Changes u v n t w → (f : Fact) (x : Name) → is_number u.names x n ≡ true → fact_of u f x ≡ holds t f
+told_before u v n t w h f x is = by (position (same_name x) u.names) is
+  where
+    by : (o : Option ℕ) → unwrap_or (option_map (nat_eq n) o) false ≡ true → fact_in u.tallies.items o f ≡ holds t f
+    by None is = absurd (false≢true is)
+    by (Some m) is = ap (λ k. fact_at u.tallies.items f k) (sym (eqb-true n m is)) ∙ ap (told f) h.before
 
-told : (u : Table) (x : Name) (o : Option Tally) (f : Fact) → tally_of u x ≡ o → fact_of u f x ≡ unwrap_or (option_map (λ t. holds t f) o) false
-told u x o f is = ap (λ r. unwrap_or (option_map (λ t. holds t f) r) false) is
+pub stays_numbered : (u v : Table) (n : ℕ) (t w : Tally) → Changes u v n t w → has_number n u.touched.items ≡ true → IsNumbered u → IsNumbered v
+stays_numbered u v n t w h has k = record {
+  within = omega (arith, h.length, k.within, ap (λ ns. length ns) h.names);
+  touched = λ f m is. ap (has_number m) h.touched ∙ by f m (nat_eq n m) refl (sym (changed_at u v n t w h f m) ∙ is);
+}
+  where
+    by : (f : Fact) (m : ℕ) (b : Bool) → nat_eq n m ≡ b → (if nat_eq n m then holds w f else fact_at u.tallies.items f m) ≡ true → has_number m u.touched.items ≡ true
+    by f m true same is = ap (λ i. has_number i u.touched.items) (sym (eqb-true n m same)) ∙ has
+    by f m false apart is = k.touched f m (sym (ap (λ b. if b then holds w f else fact_at u.tallies.items f m) apart) ∙ is)
 
-and_true : (a : Bool) → (a && true) ≡ a
+pub and_true : (a : Bool) → (a && true) ≡ a
 and_true true = refl
 and_true false = refl
 
-one_name : (x y : Name) (b : Bool) → same_name x y ≡ b → has_name x (y ∷ []) ≡ b
-one_name x y b is = ap (λ c. c || false) is ∙ or_false b
-
-said_alone : (g : Fact → Bool) (f : Fact) (x y : Name) (b : Bool) → same_name x y ≡ b → alone g (y ∷ []) f x ≡ (g f && b)
-said_alone g f x y b is = ap (λ c. g f && c) (one_name x y b is)
-
 -- facts are noted
-changed : (v w : Table) (y : Name) (n : ℕ) (t r : Tally) (g : Fact → Bool) → Changes v w y n t r → ((f : Fact) → holds r f ≡ (holds t f || g f)) → (f : Fact) (x : Name) → fact_of w f x ≡ (fact_of v f x || alone g (y ∷ []) f x)
-changed v w y n t r g h with_more f x = by (same_name x y) refl
+pub more_told : (u v : Table) (n : ℕ) (t w : Tally) (g : Fact → Bool) → Changes u v n t w → ((f : Fact) → holds w f ≡ (holds t f || g f)) → (f : Fact) (x : Name) → fact_of v f x ≡ (fact_of u f x || (g f && is_number u.names x n))
+more_told u v n t w g h with_more f x = changed_of u v n t w h f x ∙ by (is_number u.names x n) refl
   where
-    by : (b : Bool) → same_name x y ≡ b → fact_of w f x ≡ (fact_of v f x || alone g (y ∷ []) f x)
+    by : (b : Bool) → is_number u.names x n ≡ b → (if is_number u.names x n then holds w f else fact_of u f x) ≡ (fact_of u f x || (g f && is_number u.names x n))
     by true is =
-        told w x (Some r) f (own_after v w x y n t r h is) ∙ with_more f
-        ∙ ap₂ (λ a b. a || b) (sym (told v x (Some t) f (own_before v w x y n t r h is))) (sym (said_alone g f x y true is ∙ and_true (g f)))
+        ap (λ b. if b then holds w f else fact_of u f x) is ∙ with_more f
+        ∙ ap₂ (λ a b. a || b) (sym (told_before u v n t w h f x is)) (sym (ap (λ b. g f && b) is ∙ and_true (g f)))
     by false is =
-        told w x (tally_of v x) f (others_stay v w x y n t r h is)
-        ∙ sym (ap (λ b. fact_of v f x || b) (said_alone g f x y false is ∙ and_false (g f)) ∙ or_false (fact_of v f x))
+        ap (λ b. if b then holds w f else fact_of u f x) is
+        ∙ sym (ap (λ b. fact_of u f x || b) (ap (λ b. g f && b) is ∙ and_false (g f)) ∙ or_false (fact_of u f x))
 
-pub noted_one : (u v w : Table) (y : Name) (n : ℕ) (t r : Tally) (g : Fact → Bool) → Numbers u v y n → Changes v w y n t r → ((f : Fact) → holds r f ≡ (holds t f || g f)) → Notes u w (alone g (y ∷ []))
+pub noted_one : (u v w : Table) (y : Name) (n : ℕ) (t r : Tally) (g : Fact → Bool) → Numbers u v y n → Changes v w n t r → ((f : Fact) → holds r f ≡ (holds t f || g f)) → Notes u w (alone g (y ∷ []))
 noted_one u v w y n t r g got h with_more = record {
-  numbered = λ k. stays_numbered v w y n t r h (got.numbered k);
-  facts = λ k f x. changed v w y n t r g h with_more f x ∙ ap (λ b. b || alone g (y ∷ []) f x) (got.facts k f x);
+  names = subst (Extends u.names) (sym h.names) got.names;
+  numbered = λ k. stays_numbered v w n t r h got.touched (got.numbered k);
+  facts = λ k f x.
+      more_told v w n t r g h with_more f x
+      ∙ ap₂ (λ a b. a || (g f && b)) (got.facts k f x) (numbered_so x y v.names n got.number);
 }
 
 -- uses and writes become those of before
-back : (v w : Table) (y : Name) (n : ℕ) (t r b : Tally) → Changes v w y n t r → ((f : Fact) → holds r f ≡ (if is_counted f then holds b f else holds t f)) → (f : Fact) (x : Name) → fact_of w f x ≡ (if is_counted f && has_name x (y ∷ []) then holds b f else fact_of v f x)
-back v w y n t r b h counted f x = by (same_name x y) refl
+back : (v w : Table) (y : Name) (n : ℕ) (t r b : Tally) → position (same_name y) v.names ≡ Some n → Changes v w n t r → ((f : Fact) → holds r f ≡ (if is_counted f then holds b f else holds t f)) → (f : Fact) (x : Name) → fact_of w f x ≡ (if is_counted f && has_name x (y ∷ []) then holds b f else fact_of v f x)
+back v w y n t r b at h counted f x = changed_of v w n t r h f x ∙ by (is_number v.names x n) refl ∙ ap (λ c. if is_counted f && c then holds b f else fact_of v f x) (numbered_so x y v.names n at)
   where
-    by : (c : Bool) → same_name x y ≡ c → fact_of w f x ≡ (if is_counted f && has_name x (y ∷ []) then holds b f else fact_of v f x)
+    by : (c : Bool) → is_number v.names x n ≡ c → (if is_number v.names x n then holds r f else fact_of v f x) ≡ (if is_counted f && is_number v.names x n then holds b f else fact_of v f x)
     by true is =
-        told w x (Some r) f (own_after v w x y n t r h is) ∙ counted f
-        ∙ ap₂ (λ c d. if c then holds b f else d) (sym (said_alone is_counted f x y true is ∙ and_true (is_counted f))) (sym (told v x (Some t) f (own_before v w x y n t r h is)))
+        ap (λ c. if c then holds r f else fact_of v f x) is ∙ counted f
+        ∙ ap₂ (λ c d. if c then holds b f else d) (sym (ap (λ c. is_counted f && c) is ∙ and_true (is_counted f))) (sym (told_before v w n t r h f x is))
     by false is =
-        told w x (tally_of v x) f (others_stay v w x y n t r h is)
-        ∙ sym (ap (λ c. if c then holds b f else fact_of v f x) (said_alone is_counted f x y false is ∙ and_false (is_counted f)))
+        ap (λ c. if c then holds r f else fact_of v f x) is
+        ∙ sym (ap (λ c. if c then holds b f else fact_of v f x) (ap (λ c. is_counted f && c) is ∙ and_false (is_counted f)))
 
-pub restored_one : (u v w : Table) (y : Name) (n : ℕ) (t r b : Tally) → Numbers u v y n → Changes v w y n t r → ((f : Fact) → holds r f ≡ (if is_counted f then holds b f else holds t f)) → Restores u w (y ∷ []) b
+pub restored_one : (u v w : Table) (y : Name) (n : ℕ) (t r b : Tally) → Numbers u v y n → Changes v w n t r → ((f : Fact) → holds r f ≡ (if is_counted f then holds b f else holds t f)) → Restores u w (y ∷ []) b
 restored_one u v w y n t r b got h counted = record {
-  numbered = λ k. stays_numbered v w y n t r h (got.numbered k);
-  facts = λ k f x. back v w y n t r b h counted f x ∙ ap (λ c. if is_counted f && has_name x (y ∷ []) then holds b f else c) (got.facts k f x);
+  names = subst (Extends u.names) (sym h.names) got.names;
+  numbered = λ k. stays_numbered v w n t r h got.touched (got.numbered k);
+  facts = λ k f x. back v w y n t r b got.number h counted f x ∙ ap (λ c. if is_counted f && has_name x (y ∷ []) then holds b f else c) (got.facts k f x);
 }
 
 pub none_restored : (u : Table) (xs : List Name) (b : Tally) → [] ≡ xs → Restores u u xs b
 none_restored u xs b none = record {
+  names = extends_itself u.names;
   numbered = λ k. k;
   facts = λ k f x. sym (ap (λ c. if c then holds b f else fact_of u f x) (ap (λ ys. is_counted f && has_name x ys) (sym none) ∙ and_false (is_counted f)));
 }
 
--- a number that is given stands below the length
-beyond : (u v : Table) (y : Name) (n m : ℕ) → Numbers u v y n → m ≤ n → m ≡ vec_len v.tallies → IsNumbered u → ⊥
-beyond u v y n m got high len k =
-    let low = within y v.names n got.number in
-    let numbered = got.numbered k in
-    omega (arith, low, high, len, numbered, v.tallies.ok.0)
+-- a number that is touched stands below the length
+pub never_beyond : (v : Table) (n m : ℕ) → n < length v.tallies.items → m ≤ n → m ≡ vec_len v.tallies → ⊥
+never_beyond v n m low high len = omega (arith, low, high, len, v.tallies.ok.0)
 
-pub never_beyond : (u v : Table) (y : Name) (n m : ℕ) (more : Fact → Name → Bool) → Numbers u v y n → m ≤ n → m ≡ vec_len v.tallies → Notes u v more
-never_beyond u v y n m more got high len = record { numbered = got.numbered; facts = λ k f x. absurd (beyond u v y n m got high len k) }
-
-pub never_restored : (u v : Table) (y : Name) (n m : ℕ) (xs : List Name) (b : Tally) → Numbers u v y n → m ≤ n → m ≡ vec_len v.tallies → Restores u v xs b
-never_restored u v y n m xs b got high len = record { numbered = got.numbered; facts = λ k f x. absurd (beyond u v y n m got high len k) }
-
--- a table without names
-
-pub blank : (u : Table) → u.names ≡ [] → u.tallies.items ≡ [] → IsBlank u
-blank u names tallies = record {
-  numbered = ap (λ ts. length ts) tallies ∙ sym (ap (λ ns. length ns) names);
-  facts = λ f x. ap (λ ts. fact_in ts (position (same_name x) u.names) f) tallies ∙ nothing_in (position (same_name x) u.names) f;
+-- a table without tallies
+pub blank : (u : Table) → u.tallies.items ≡ [] → IsBlank u
+blank u none = record {
+  numbered = record { within = omega (arith, ap (λ ts. length ts) none); touched = λ f n is. absurd (false≢true (sym (ap (λ ts. fact_at ts f n) none) ∙ is)) };
+  facts = λ f x. ap (λ ts. fact_in ts (position (same_name x) u.names) f) none ∙ by f (position (same_name x) u.names);
 }
   where
-    nothing_in : (o : Option ℕ) (f : Fact) → fact_in [] o f ≡ false
-    nothing_in None f = refl
-    nothing_in (Some n) f = refl
-
--- what is looked up
-
-pub looked_at : (u : Table) (y : Name) (n m : ℕ) (t : Tally) → position (same_name y) u.names ≡ Some n → n < m → m ≡ vec_len u.tallies → t ≡ slice_index_or u.tallies.items n t → (f : Fact) → holds t f ≡ fact_of u f y
-looked_at u y n m t number low len read f =
-    let inside : n < length u.tallies.items = omega (arith, low, len, u.tallies.ok.0) in
-    sym (told u y (Some t) f (ap (option_and_then (slice_get u.tallies.items)) number ∙ slice_get_read u.tallies.items (length u.tallies.items) n t refl inside read))
-
-pub not_there : (u : Table) (y : Name) (t : Tally) → position (same_name y) u.names ≡ None → ((f : Fact) → holds t f ≡ false) → (f : Fact) → holds t f ≡ fact_of u f y
-not_there u y t is none f = none f ∙ sym (told u y None f (ap (option_and_then (slice_get u.tallies.items)) is))
-
-pub past_the_end : (u : Table) (y : Name) (n m : ℕ) (t : Tally) → position (same_name y) u.names ≡ Some n → m ≤ n → m ≡ vec_len u.tallies → ((f : Fact) → holds t f ≡ false) → (f : Fact) → holds t f ≡ fact_of u f y
-past_the_end u y n m t number high len none f =
-    none f ∙ sym (told u y None f (ap (option_and_then (slice_get u.tallies.items)) number ∙ slice_get_past u.tallies.items n (omega (arith, high, len, u.tallies.ok.0))))
+    by : (f : Fact) (o : Option ℕ) → fact_in [] o f ≡ false
+    by f None = refl
+    by f (Some n) = refl

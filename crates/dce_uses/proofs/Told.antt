@@ -69,9 +69,6 @@ exported_as x (node l ss cs ⊳ ts) =
 
 -- a table tells what a tree says
 
-plus_nothing : (a b : Bool) → (a || (false && b)) ≡ a
-plus_nothing a b = or_false a
-
 hidden_as : (h e d s : Bool) → s ≡ (e || d) → ((h || (true && e)) || d) ≡ (s || h)
 hidden_as h e d s is = or_grouped h e d ∙ ap (λ b. h || b) (sym is) ∙ or_swap h s
 

@@ -1,6 +1,6 @@
 -- What is noted of uses, an item of a module after another.
 use Rattle.std.specs.Prelude.{Bool, false, ◌≡◌, ◌&&◌, ◌||◌, []}
-use Rattle.swc_ast.specs.Tree.{Name, Label, node, Forest}
+use Rattle.swc_ast.specs.Tree.{Name, Label, Tree, node, Forest, label_of, children_of}
 use Rattle.swc_ast.specs.Scope.{has_name}
 use Rattle.dce_uses.specs.declared.tally.Fact.{Fact}
 use Rattle.dce_uses.specs.declared.uses.Uses.{Uses}
@@ -21,3 +21,7 @@ pub record IsUnused (u : Uses) : Type 0 where
 pub record NotesItem (u v : Uses) (l : Label) (cs : Forest) : Type 0 where
   pub table : Notes u.table v.table (item_says l cs)
   pub default : v.exports_default ≡ (u.exports_default || is_nameless_export l)
+
+-- The same of an item that wasn't opened.
+abbrev pub NotesTree : Uses → Uses → Tree → Type 0
+NotesTree u v t = NotesItem u v (label_of t) (children_of t)

@@ -1,5 +1,5 @@
 -- What a table tells of names.
-use Rattle.std.specs.Prelude.{Bool, true, false, not, ◌≡◌, ◌&&◌, ◌||◌, if◌then◌else◌, ℕ, List, [], length, Option, Some, option_map, option_and_then, position, slice_get, unwrap_or}
+use Rattle.std.specs.Prelude.{Bool, true, false, not, ◌≡◌, ◌&&◌, ◌||◌, if◌then◌else◌, ℕ, ◌<◌, ◌≤◌, nat_eq, List, [], ◌∷◌, ◌++◌, length, Option, Some, option_map, option_and_then, position, slice_get, unwrap_or}
 use Rattle.swc_ast.specs.Tree.{Name, same_name, Tree}
 use Rattle.swc_ast.specs.Scope.{has_name, default_name}
 use Rattle.dce_rules.specs.Uses.{free_to_go, is_unread}
@@ -27,12 +27,36 @@ tally_of u x = option_and_then (slice_get u.tallies.items) (position (same_name 
 abbrev pub fact_of : Table → Fact → Name → Bool
 fact_of u f x = unwrap_or (option_map (λ t. holds t f) (tally_of u x)) false
 
--- Each name of a table has a tally.
-abbrev pub IsNumbered : Table → Type 0
-IsNumbered u = length u.tallies.items ≡ length u.names
+-- whether nothing was noted
+abbrev pub is_blank : Tally → Bool
+is_blank t = not (((((t.uses || t.writes) || t.is_abroad) || t.is_declared) || t.is_held) || t.is_hidden)
+
+-- what was noted at a number, nothing where it has no tally
+abbrev pub fact_at : List Tally → Fact → ℕ → Bool
+fact_at ts f n = unwrap_or (option_map (λ t. holds t f) (slice_get ts n)) false
+
+-- whether a number is among others
+abbrev pub has_number : ℕ → List ℕ → Bool
+has_number n [] = false
+has_number n (m ∷ ms) = nat_eq n m || has_number n ms
+
+-- Each tally is that of a name, and numbers of which something was noted were touched.
+pub record IsNumbered (u : Table) : Type 0 where
+  pub within : length u.tallies.items ≤ length u.names
+  pub touched : (f : Fact) (n : ℕ) → fact_at u.tallies.items f n ≡ true → has_number n u.touched.items ≡ true
+
+-- The second list of names is the first with more behind it.
+pub record Extends (xs ys : List Name) : Type 0 where
+  pub more : List Name
+  pub is : ys ≡ xs ++ more
+
+-- the names of a table, in the order of their numbers
+abbrev pub names_of : Uses → List Name
+names_of u = u.table.names
 
 -- A table becomes another by noting facts.
 pub record Notes (u v : Table) (more : Fact → Name → Bool) : Type 0 where
+  pub names : Extends u.names v.names
   pub numbered : IsNumbered u → IsNumbered v
   pub facts : IsNumbered u → (f : Fact) (x : Name) → fact_of v f x ≡ (fact_of u f x || more f x)
 
@@ -74,12 +98,24 @@ pub record IsBlank (u : Table) : Type 0 where
 
 -- A name has a number in a table, and nothing was noted beside that.
 pub record Numbers (u v : Table) (y : Name) (n : ℕ) : Type 0 where
+  pub names : Extends u.names v.names
+  pub within : n < length v.tallies.items
+  pub touched : has_number n v.touched.items ≡ true
   pub numbered : IsNumbered u → IsNumbered v
   pub number : position (same_name y) v.names ≡ Some n
   pub facts : IsNumbered u → (f : Fact) (x : Name) → fact_of v f x ≡ fact_of u f x
 
+-- A number has a tally and is touched, and nothing was noted beside that.
+pub record Touches (u v : Table) (n : ℕ) : Type 0 where
+  pub names : v.names ≡ u.names
+  pub within : n < length v.tallies.items
+  pub touched : has_number n v.touched.items ≡ true
+  pub numbered : IsNumbered u → IsNumbered v
+  pub facts : (f : Fact) (m : ℕ) → fact_at v.tallies.items f m ≡ fact_at u.tallies.items f m
+
 -- A table becomes another where uses and writes of some names are those of before.
 pub record Restores (u v : Table) (xs : List Name) (before : Tally) : Type 0 where
+  pub names : Extends u.names v.names
   pub numbered : IsNumbered u → IsNumbered v
   pub facts : IsNumbered u → (f : Fact) (x : Name) → fact_of v f x ≡ (if is_counted f && has_name x xs then holds before f else fact_of u f x)
 

@@ -7,6 +7,7 @@ mod labels;
 mod listed;
 mod place;
 mod retained;
+mod said;
 mod scans;
 mod seen;
 mod table;
@@ -15,4 +16,5 @@ mod uses;
 
 pub use labels::{declared_name, function_name, is_read, named};
 pub use retained::Retained;
+pub use said::{Said, Speaks};
 pub use uses::{Uses, is_default};

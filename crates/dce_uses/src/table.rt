@@ -1,12 +1,14 @@
 //! A table of what a tree says of its names.
-ghost use Rattle.std.specs.Prelude.{◌≡◌, ◌&&◌, IfOk, OnOk, [], ◌∷◌};
+ghost use Rattle.std.specs.Prelude.{◌≡◌, ◌<◌, ◌&&◌, IfOk, OnOk, [], ◌∷◌, length};
 ghost use Rattle.swc_ast.specs.Parts.{ident_name};
 ghost use Rattle.swc_ast.specs.Scope.{has_name};
 ghost use Rattle.swc_names.specs.Ids.{optional};
 ghost use Rattle.dce_uses.specs.Noted.{is_hiding};
-ghost use Rattle.dce_uses.specs.Tables.{IsBlank, Notes, Numbers, Restores, fact_of, holds};
+ghost use Rattle.dce_uses.specs.Said.{AreNumbered, Takes, row_says, rows_say};
+ghost use Rattle.dce_uses.specs.Tables.{IsBlank, IsNumbered, Notes, Numbers, Restores, Touches, fact_of, holds};
 ghost use Rattle.dce_uses.specs.declared.tally.Fact as facts;
 
+use crate::said::Row;
 use crate::tally::Tally;
 use std::alloc::{AllocError, Global};
 use swc_ast::Ident;
@@ -17,6 +19,8 @@ use swc_names::Names;
 pub(crate) struct Table {
     names: Names,
     tallies: Vec<Tally>,
+    /// The numbers that were touched since nothing was noted.
+    touched: Vec<usize>,
 }
 
 impl Table {
@@ -27,6 +31,7 @@ impl Table {
         Table {
             names: Names::empty(alloc),
             tallies: Vec::new(alloc),
+            touched: Vec::new(alloc),
         }
     }
 
@@ -51,10 +56,21 @@ impl Table {
         ensures { IfOk result (λ n. Numbers self.old self.new (ident_name name.now) n) }
     {
         let number = self.names.add(name)?;
-        if number >= self.tallies.len() {
-            self.tallies.push(Tally::empty())?;
-        }
+        self.touch(number)?;
         Ok(number)
+    }
+
+    /// Touches a number: from now on it has a tally.
+    #[inline(always)]
+    fn touch(&mut self, number: usize) -> Result<(), AllocError>
+        requires { number < length self.old.names }
+        ensures { OnOk result (Touches self.old self.new number) }
+    {
+        self.touched.push(number)?;
+        if number >= self.tallies.len() {
+            self.tallies.resize(self.names.len(), Tally::empty())?;
+        }
+        Ok(())
     }
 
     /// Notes more of a name.
@@ -90,6 +106,60 @@ impl Table {
         let number = self.number(name)?;
         if number < self.tallies.len() {
             self.tallies[number] = self.tallies[number].counted_as(before);
+        }
+        Ok(())
+    }
+
+    /// Forgets what was noted. Names keep their numbers.
+    pub(crate) fn forget(&mut self)
+        ensures blank { IsBlank self.new }
+        ensures names { self.new.names ≡ self.old.names }
+    {
+        self.tallies.clear();
+        self.touched.clear();
+    }
+
+    /// What was noted, as rows. Nothing of it stays noted.
+    pub(crate) fn take_rows(&mut self, alloc: Global) -> Result<Vec<Row>, AllocError>
+        requires { IsNumbered self.old }
+        ensures blank { OnOk result (IsBlank self.new) }
+        ensures rows { IfOk result (λ rs. Takes self.old self.new rs.items) }
+    {
+        let mut rows = Vec::new(alloc);
+        while let Some(number) = self.touched.pop() {
+            if number < self.tallies.len() {
+                let tally = self.tallies[number];
+                if !tally.is_empty() {
+                    rows.push(Row { number, tally })?;
+                    self.tallies[number] = Tally::empty();
+                }
+            }
+        }
+        Ok(rows)
+    }
+
+    /// Notes what a row tells.
+    fn add_row(&mut self, row: &Row) -> Result<(), AllocError>
+        requires { row.now.number < length self.old.names }
+        ensures notes { OnOk result (Notes self.old self.new (row_says self.old.names row.now)) }
+        ensures names { OnOk result (self.new.names ≡ self.old.names) }
+    {
+        self.touch(row.number)?;
+        if row.number < self.tallies.len() {
+            self.tallies[row.number] = self.tallies[row.number].and(row.tally);
+        }
+        Ok(())
+    }
+
+    /// Notes what rows tell.
+    pub(crate) fn add_rows(&mut self, rows: &[Row]) -> Result<(), AllocError>
+        requires { AreNumbered self.old.names rows.now }
+        ensures { OnOk result (Notes self.old self.new (rows_say self.old.names rows.now)) }
+    {
+        let mut left = rows;
+        while let [row, rest @ ..] = left {
+            self.add_row(row)?;
+            left = rest;
         }
         Ok(())
     }

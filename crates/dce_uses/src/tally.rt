@@ -1,6 +1,6 @@
 //! What is noted of one name.
 ghost use Rattle.std.specs.Prelude.{◌≡◌, ◌||◌, false, if◌then◌else◌};
-ghost use Rattle.dce_uses.specs.Tables.{holds};
+ghost use Rattle.dce_uses.specs.Tables.{holds, is_blank};
 ghost use Rattle.dce_uses.specs.Noted.{is_counted, is_hiding};
 ghost use Rattle.dce_uses.specs.declared.tally.Fact as facts;
 
@@ -87,6 +87,19 @@ impl Tally {
             is_held: self.is_held || other.is_held,
             is_hidden: self.is_hidden || other.is_hidden,
         }
+    }
+
+    /// Whether nothing was noted.
+    #[inline(always)]
+    pub(crate) fn is_empty(self) -> bool
+        ensures { result ≡ is_blank self }
+    {
+        !(self.uses
+            || self.writes
+            || self.is_abroad
+            || self.is_declared
+            || self.is_held
+            || self.is_hidden)
     }
 
     /// The same with the uses and writes of another.

@@ -1,5 +1,5 @@
 //! How the names of a tree are used.
-ghost use Rattle.std.specs.Prelude.{◌≡◌, List, [], IfOk, IfErr, OnOk};
+ghost use Rattle.std.specs.Prelude.{◌≡◌, List, [], IfSome, IfOk, IfErr, OnOk};
 ghost use Rattle.swc_ast.specs.Modules.{item_tree, module_tree, script_tree};
 ghost use Rattle.swc_ast.specs.Parts.{ident_name, list_trees};
 ghost use Rattle.swc_ast.specs.Scope.{default_name};
@@ -10,10 +10,13 @@ ghost use Rattle.swc_ast.specs.declared.errors.PassError.TheVariants.{OutOfMemor
 ghost use Rattle.tree_visit.specs.Kinds.{kind_label};
 ghost use Rattle.tree_visit.specs.Nodes.{node_tree, children_forest};
 ghost use Rattle.dce_uses.specs.Tables as tables;
-ghost use Rattle.dce_uses.specs.Items.{IsUnused, NotesItem};
+ghost use Rattle.dce_uses.specs.Items.{IsUnused, NotesItem, NotesTree};
+ghost use Rattle.dce_uses.specs.Said.{Adds, AllSaid, AreNumbered, Says};
+ghost use Rattle.dce_uses.specs.Tables.{Extends, names_of};
 
 use crate::exports::is_nameless;
 use crate::place::Place;
+use crate::said::{Said, Speaks};
 use crate::table::Table;
 use crate::tally::Fact;
 use std::alloc::{AllocError, Global};
@@ -38,7 +41,7 @@ pub fn is_default(name: &Ident) -> bool
 
 impl Uses {
     /// Uses of which nothing was noted.
-    fn nothing(alloc: Global) -> Uses
+    pub fn nothing(alloc: Global) -> Uses
         ensures { IsUnused result }
     {
         Uses {
@@ -54,6 +57,69 @@ impl Uses {
         self.table.count_opened(item, Place::top())?;
         self.table.note_exported(item.kind, item.children)?;
         self.exports_default = self.exports_default | is_nameless(item.kind);
+        Ok(())
+    }
+
+    /// Forgets what was noted. Names keep their numbers.
+    pub fn forget(&mut self)
+        ensures unused { IsUnused self.new }
+        ensures names { names_of self.new ≡ names_of self.old }
+    {
+        self.table.forget();
+        self.exports_default = false;
+    }
+
+    /// What an item says by itself. Nothing of it stays noted.
+    pub fn said<T: StmtLike>(&mut self, alloc: Global, item: &T) -> Result<Said, AllocError>
+        requires { IsUnused self.old }
+        ensures unused { OnOk result (IsUnused self.new) }
+        ensures more { OnOk result (Extends (names_of self.old) (names_of self.new)) }
+        ensures says { IfOk result (λ s. Says (names_of self.new) s (item_tree (T.item item.now))) }
+    {
+        self.note_item(open_item(item))?;
+        let exports_default = self.exports_default;
+        self.exports_default = false;
+        let rows = self.table.take_rows(alloc)?;
+        Ok(Said {
+            rows,
+            exports_default,
+        })
+    }
+
+    /// Notes what an item says.
+    fn add(&mut self, said: &Said) -> Result<(), AllocError>
+        requires { AreNumbered (names_of self.old) said.now.rows.items }
+        ensures { OnOk result (Adds self.old self.new said.now) }
+    {
+        self.table.add_rows(&said.rows)?;
+        self.exports_default = self.exports_default | said.exports_default;
+        Ok(())
+    }
+
+    /// Notes what an item says, by what is known of it or by a count.
+    fn add_item<T: Speaks>(&mut self, item: &T) -> Result<(), AllocError>
+        requires { IfSome (T.tells item.now) (λ s. Says (names_of self.old) s (item_tree (T.item item.now))) }
+        ensures { OnOk result (NotesTree self.old self.new (item_tree (T.item item.now))) }
+    {
+        match item.said() {
+            Some(said) => self.add(said),
+            None => self.note_item(open_item(item)),
+        }
+    }
+
+    /// Notes what the items of a module say, by what is known of them or by a count. Refuses where memory is refused.
+    pub fn tell<T: Speaks>(&mut self, items: &[T]) -> Result<(), PassError>
+        requires said { AllSaid (names_of self.old) T.item T.tells items.now }
+        ensures tells { OnOk result ((ss : List Span) → tables.Tells self.new (node trees.Module ss (list_trees (λ x. item_tree (T.item x)) items.now))) }
+        ensures more { OnOk result (Extends (names_of self.old) (names_of self.new)) }
+        ensures memory { IfErr result (λ e. e ≡ OutOfMemory) }
+    {
+        self.forget();
+        let mut left = items;
+        while let [item, rest @ ..] = left {
+            self.add_item(item)?;
+            left = rest;
+        }
         Ok(())
     }
 

@@ -1,17 +1,40 @@
 -- What is known of an item of a module.
-use Rattle.std.specs.Prelude.{false, Option, IfSome}
+use Rattle.std.specs.Prelude.{false, List, map, None, IfSome}
+use Rattle.std.specs.List.{All}
 use Rattle.swc_ast.specs.Marks.{context_number}
-use Rattle.swc_ast.specs.Tree.{Tree}
-use Rattle.swc_ast.specs.declared.names.SyntaxContext.{SyntaxContext}
+use Rattle.swc_ast.specs.Modules.{item_tree}
+use Rattle.swc_ast.specs.Tree.{Name, Tree}
+use Rattle.swc_ast.specs.declared.modules.ModuleItem.{ModuleItem}
 use Rattle.tree_walk.specs.Pass.{Pass}
 use Rattle.tree_walk.specs.Walks.{Walks}
 use Rattle.swc_expr.specs.Simplifies.{simplify_pass}
 use Rattle.branch_rules.specs.Removes.{remove_pass}
+use Rattle.dce_uses.specs.Said.{Says}
+use Rattle.round_units.specs.declared.unit.Unit.{Unit}
 
 -- a walk by the pass leaves it as it is
 abbrev pub Rests : Pass → Tree → Type 0
 Rests X t = Walks X false t t
 
+-- an item of which nothing is known
+abbrev pub unknown : ModuleItem → Unit
+unknown x = record { item = x; simplified = None; removed = None; said = None }
+
 -- the unresolved names of an expression simplifier and of a remover that leave it, if any
-abbrev pub Known : Option SyntaxContext → Option SyntaxContext → Tree → Type 0
-Known simplified removed t = IfSome simplified (λ c. Rests (simplify_pass (context_number c)) t) × IfSome removed (λ c. Rests (remove_pass (context_number c)) t)
+abbrev pub Known : Unit → Type 0
+Known u = IfSome u.simplified (λ c. Rests (simplify_pass (context_number c)) (item_tree u.item)) × IfSome u.removed (λ c. Rests (remove_pass (context_number c)) (item_tree u.item))
+
+-- what it says of names, if that is known, by the numbers that names have
+abbrev pub SaidOf : List Name → Unit → Type 0
+SaidOf names u = IfSome u.said (λ s. Says names s (item_tree u.item))
+
+-- the items of units
+abbrev pub items_in : List Unit → List ModuleItem
+items_in us = map (λ u. u.item) us
+
+-- the same of each of some units
+abbrev pub AllKnown : List Unit → Type 0
+AllKnown us = All Known us
+
+abbrev pub AllSay : List Name → List Unit → Type 0
+AllSay names us = All (SaidOf names) us

@@ -1,6 +1,8 @@
-//! An item of a module, and the passes that leave it as it is.
-ghost use Rattle.std.specs.Prelude.{◌≡◌, IfOk, IsTrue, Some};
+//! An item of a module, and what is known of it.
+ghost use Rattle.std.specs.Prelude.{◌≡◌, IfOk, OnOk, IsTrue, List, None, Some, refl};
 ghost use Rattle.swc_ast.specs.Modules.{item_tree};
+ghost use Rattle.swc_ast.specs.Tree.{Name};
+ghost use Rattle.swc_ast.specs.declared.modules.ModuleItem.TheVariants as items;
 ghost use Rattle.swc_utils.specs.Globals.{unresolved};
 ghost use Rattle.tree_walk.specs.Pass.{Pass};
 ghost use Rattle.tree_walk.specs.Walks.{Made};
@@ -8,9 +10,12 @@ ghost use Rattle.swc_expr.specs.Simplifies.{simplify_pass};
 ghost use Rattle.branch_rules.specs.Removes.{remove_pass};
 ghost use Rattle.dce_rules.specs.Shakes.{shake_pass};
 ghost use Rattle.dce_code.specs.Knowledge.{shaker};
+ghost use Rattle.dce_uses.specs.Items.{IsUnused};
+ghost use Rattle.dce_uses.specs.Tables.{Extends, names_of};
+ghost use Rattle.round_units.specs.Rests.{Known, SaidOf, unknown};
 
-use std::alloc::AllocError;
-use std::marker::Model;
+use dce_uses::{Said, Speaks, Uses};
+use std::alloc::{AllocError, Global};
 use stmt_like::StmtLike;
 use swc_ast::{ModuleDecl, ModuleItem, Stmt, SyntaxContext};
 use swc_branch::BranchRules;
@@ -18,32 +23,16 @@ use swc_dce::ShakeRules;
 use swc_expr::ExprRules;
 use tree_walk::{Rules, walk_module_item};
 
-/// An item of a module, and the passes that are known to leave it as it is.
+/// An item of a module, and what is known of it.
 #[derive(Drop)]
 pub struct Unit {
-    item: ModuleItem,
-    /// The unresolved names of an expression simplifier that leaves it.
+    pub(crate) item: ModuleItem,
+    /// The unresolved names of an expression simplifier that leaves it as it is.
     simplified: Option<SyntaxContext>,
     /// The same of a remover of dead branches.
     removed: Option<SyntaxContext>,
-}
-
-impl Model for Unit {
-    ghost use Rattle.swc_ast.specs.Modules.{item_tree};
-    ghost use Rattle.swc_ast.specs.declared.modules.ModuleItem.{ModuleItem as Item};
-    ghost use Rattle.round_units.specs.Rests.{Known};
-    ghost use Rattle.std.specs.Coded.{codes};
-    ghost use Rattle.swc_ast.specs.contracts.declarations.Decl as d;
-    ghost use Rattle.swc_ast.specs.contracts.expressions.Expr as e;
-    ghost use Rattle.swc_ast.specs.contracts.statements.Stmt as s;
-
-    ghost Value = { Item };
-
-    ghost coded = { Prim.hlevel (codes, d.the_row.coded, e.the_row.coded, s.the_row.coded) };
-
-    ghost view = { λ u. u.item };
-
-    ghost invariant = { λ u. Known u.simplified u.removed (item_tree u.item) };
+    /// What it says of names.
+    said: Option<Said>,
 }
 
 /// A pass over units.
@@ -52,7 +41,10 @@ pub(crate) trait Step {
 
     /// Walks the item of a unit, unless the pass is known to leave it. Returns whether it changed.
     fn step(&self, unit: &mut Unit) -> Result<bool, AllocError>
-        ensures { IfOk result (λ c. Made (pass self.now) (item_tree unit.old) (item_tree unit.new) c) };
+        requires known { Known unit.old }
+        ensures made { IfOk result (λ c. Made (pass self.now) (item_tree unit.old.item) (item_tree unit.new.item) c) }
+        ensures known { OnOk result (Known unit.new) }
+        ensures said { OnOk result ((names : List Name) → SaidOf names unit.old → SaidOf names unit.new) };
 }
 
 impl Step for ExprRules {
@@ -92,46 +84,68 @@ fn is_known(known: Option<SyntaxContext>, context: SyntaxContext) -> bool
 impl Unit {
     /// An item of which nothing is known.
     pub(crate) fn new(item: ModuleItem) -> Unit
-        ensures { result ≡ item }
+        ensures { result ≡ unknown item }
     {
         Unit {
             item,
             simplified: None,
             removed: None,
+            said: None,
         }
     }
 
     /// The item.
     pub(crate) fn into_item(self) -> ModuleItem
-        ensures { result ≡ self }
+        ensures { result ≡ self.item }
     {
         let Unit {
             item,
             simplified: _,
             removed: _,
+            said: _,
         } = self;
         item
     }
 
+    /// Notes what it says of names, unless that is known.
+    pub(crate) fn say(&mut self, alloc: Global, uses: &mut Uses) -> Result<(), AllocError>
+        requires unused { IsUnused uses.old }
+        requires known { Known self.old }
+        requires said { SaidOf (names_of uses.old) self.old }
+        ensures unused { OnOk result (IsUnused uses.new) }
+        ensures more { OnOk result (Extends (names_of uses.old) (names_of uses.new)) }
+        ensures item { OnOk result (self.new.item ≡ self.old.item) }
+        ensures known { OnOk result (Known self.new) }
+        ensures said { OnOk result (SaidOf (names_of uses.new) self.new) }
+    {
+        if self.said.is_none() {
+            self.said = Some(uses.said(alloc, &self.item)?);
+        }
+        Ok(())
+    }
+
     /// Walks the item. What is known stays where nothing changes.
     fn walk<R: Rules>(&mut self, rules: &R) -> Result<bool, AllocError>
-        ensures { IfOk result (λ c. Made (R.pass rules.now) (item_tree self.old) (item_tree self.new) c) }
+        requires known { Known self.old }
+        ensures made { IfOk result (λ c. Made (R.pass rules.now) (item_tree self.old.item) (item_tree self.new.item) c) }
+        ensures known { OnOk result (Known self.new) }
+        ensures said { OnOk result ((names : List Name) → SaidOf names self.old → SaidOf names self.new) }
     {
-        let simplified = self.simplified;
-        let removed = self.removed;
-        self.simplified = None;
-        self.removed = None;
         let changed = walk_module_item(rules, &mut self.item)?;
-        if !changed {
-            self.simplified = simplified;
-            self.removed = removed;
+        if changed {
+            self.simplified = None;
+            self.removed = None;
+            self.said = None;
         }
         Ok(changed)
     }
 
     /// Walks the item by the expression simplifier, unless that is known to leave it.
     fn simplify(&mut self, rules: &ExprRules) -> Result<bool, AllocError>
-        ensures { IfOk result (λ c. Made (simplify_pass (unresolved rules.now.ctx)) (item_tree self.old) (item_tree self.new) c) }
+        requires known { Known self.old }
+        ensures made { IfOk result (λ c. Made (simplify_pass (unresolved rules.now.ctx)) (item_tree self.old.item) (item_tree self.new.item) c) }
+        ensures known { OnOk result (Known self.new) }
+        ensures said { OnOk result ((names : List Name) → SaidOf names self.old → SaidOf names self.new) }
     {
         let context = rules.ctx.unresolved_ctxt;
         if is_known(self.simplified, context) {
@@ -146,7 +160,10 @@ impl Unit {
 
     /// The same by the remover of dead branches.
     fn remove(&mut self, rules: &BranchRules) -> Result<bool, AllocError>
-        ensures { IfOk result (λ c. Made (remove_pass (unresolved rules.now.ctx)) (item_tree self.old) (item_tree self.new) c) }
+        requires known { Known self.old }
+        ensures made { IfOk result (λ c. Made (remove_pass (unresolved rules.now.ctx)) (item_tree self.old.item) (item_tree self.new.item) c) }
+        ensures known { OnOk result (Known self.new) }
+        ensures said { OnOk result ((names : List Name) → SaidOf names self.old → SaidOf names self.new) }
     {
         let context = rules.ctx.unresolved_ctxt;
         if is_known(self.removed, context) {
@@ -161,16 +178,29 @@ impl Unit {
 }
 
 impl StmtLike for Unit {
-    ghost item = { λ u. u };
+    ghost item = { λ u. u.item };
+
+    ghost made = { λ s. unknown (items.Stmt s) };
 
     fn from(s: Stmt) -> Unit {
         Unit::new(ModuleItem::Stmt(s))
     }
 
     fn try_into_stmt(self) -> Result<Stmt, Unit> {
-        match self.into_item().try_into_stmt() {
+        let Unit {
+            item,
+            simplified,
+            removed,
+            said,
+        } = self;
+        match item.try_into_stmt() {
             Ok(s) => Ok(s),
-            Err(item) => Err(Unit::new(item)),
+            Err(item) => Err(Unit {
+                item,
+                simplified,
+                removed,
+                said,
+            }),
         }
     }
 
@@ -182,5 +212,13 @@ impl StmtLike for Unit {
         self.item.as_module_decl()
     }
 
-    ghost exact = { λ x y h. h };
+    ghost made_is = { λ s. refl };
+}
+
+impl Speaks for Unit {
+    ghost tells = { λ u. u.said };
+
+    fn said(&self) -> Option<&Said> {
+        self.said.as_ref()
+    }
 }

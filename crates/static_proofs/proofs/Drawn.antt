@@ -7,7 +7,7 @@ use Rattle.swc_ast.specs.Scope.{is_function, joined}
 use Rattle.swc_ast.specs.Valid.{good_names, good_shape, valid, valid_all}
 use Rattle.swc_ast.specs.Resolved.{scopes, scopes_all, Targets, below, jump_is_aimed, aimed, aimed_all, params_apart, apart, apart_all}
 use Rattle.swc_ast.specs.Core.{numbers_fit, good_scope, fits, fits_all}
-use Rattle.swc_ast.specs.Weight.{weight, weight_all}
+use Rattle.swc_ast.specs.Weight.{weight_all}
 use Rattle.static_proofs.specs.Drawn.{Drawn, AllDrawn, nothing_of, all_of, part_of, none_drawn, more_drawn}
 use Rattle.static_proofs.proofs.Targets.{aimed_all_more, more_out}
 
@@ -62,16 +62,6 @@ mutual
   pub all_drawn_scopes : (x : Name) {ts us : Forest} → AllDrawn ts us → scopes_all x us ≤ scopes_all x ts
   all_drawn_scopes x none_drawn = omega arith
   all_drawn_scopes x (more_drawn {us = us} {vs = vs} h hs) = omega (arith, drawn_scopes x h, all_drawn_scopes x hs, scopes_joined x us vs)
-
-mutual
-  pub drawn_weight : {t : Tree} {us : Forest} → Drawn t us → weight_all us ≤ weight t
-  drawn_weight nothing_of = omega arith
-  drawn_weight all_of = omega arith
-  drawn_weight (part_of e h) = omega (arith, all_drawn_weight h)
-
-  pub all_drawn_weight : {ts us : Forest} → AllDrawn ts us → weight_all us ≤ weight_all ts
-  all_drawn_weight none_drawn = omega arith
-  all_drawn_weight (more_drawn {us = us} {vs = vs} h hs) = omega (arith, drawn_weight h, all_drawn_weight hs, weight_joined us vs)
 
 mutual
   pub drawn_valid : {t : Tree} {us : Forest} → Drawn t us → valid t ≡ true → valid_all us ≡ true

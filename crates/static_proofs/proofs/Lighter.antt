@@ -5,7 +5,7 @@ use Rattle.swc_ast.specs.declared.Span.{Span}
 use Rattle.swc_ast.specs.Tree.{Label, BoolLit, Absent, Param, Try, While, For, Tree, node, Forest}
 use Rattle.swc_ast.specs.Weight.{own_weight, test_weight, weight, weight_all, is_list, is_stopper, stays_behind, unreached, is_truth_or_absent}
 use Rattle.static_proofs.specs.Lighter.{base_weight, is_settled, Lowers, Weighed, AllWeighed, none_weighed, more_weighed}
-use Rattle.static_proofs.specs.Walks.{Walks, AllWalk, inside, then, early, nothing, both, Leaves, AllLeave, closed, opened, stands, steps, none_left, more_left}
+use Rattle.static_proofs.specs.Walks.{then, nothing, Leaves, AllLeave, closed, opened, stands, steps, none_left, more_left}
 use Rattle.static_proofs.proofs.Lists.{sum_weighed, Listed, same_list, lower_list, new_stopper, list_weighed}
 
 own_same : {N : Type 0} (l : Label) {ts us : Forest} → AllWeighed N ts us → own_weight l us ≡ own_weight l ts
@@ -152,46 +152,3 @@ mutual
   pub all_leave_weighed : {N : Type 0} {C E : Tree → Type 0} {X : Tree → Tree → Type 0} {ts us : Forest} → ((b : Tree) → E b → N → is_settled b) → ((b c : Tree) → X b c → Lowers N b c) → AllLeave C E X ts us → AllWeighed N ts us
   all_leave_weighed e f none_left = none_weighed
   all_leave_weighed e f (more_left h hs) = more_weighed (leaves_weighed e f h) (all_leave_weighed e f hs)
-
--- where no stopper is new, any walk will do
-then_weighed : {t b c : Tree} → Weighed ⊥ t b → Lowers ⊥ b c → Weighed ⊥ t c
-then_weighed {t} {b} {c} k x = record {
-  outcome = inr (by_case k.outcome);
-  truth_kept = λ h. x.truth_kept (k.truth_kept h);
-  stopper_paid = λ h. by_stopper (x.stopper_paid h);
-  stay_paid = λ h. by_stay (k.stay_paid h);
-}
-  where
-    by_case : (b ≡ t) ⊎ (weight b < weight t) → weight c < weight t
-    by_case (inl q) = omega (arith, ap weight q, x.lower)
-    by_case (inr q) = omega (arith, x.lower)
-
-    by_stopper : (is_stopper b ≡ true) ⊎ (⊥ × (weight c + 3 ≤ base_weight b)) → (is_stopper t ≡ true) ⊎ (⊥ × (weight c + 3 ≤ weight t))
-    by_stopper (inl h) = sides (k.stopper_paid h)
-      where
-        sides : (is_stopper t ≡ true) ⊎ (⊥ × (weight b + 3 ≤ weight t)) → (is_stopper t ≡ true) ⊎ (⊥ × (weight c + 3 ≤ weight t))
-        sides (inl i) = inl i
-        sides (inr i) = absurd i.0
-    by_stopper (inr h) = absurd h.0
-
-    at_most : (b ≡ t) ⊎ (weight b < weight t) → weight b ≤ weight t
-    at_most (inl q) = omega (arith, ap weight q)
-    at_most (inr q) = omega arith
-
-    by_stay : (stays_behind b ≡ true) ⊎ (weight b + 4 < weight t) → (stays_behind c ≡ true) ⊎ (weight c + 4 < weight t)
-    by_stay (inl h) = sides (x.stay_paid h)
-      where
-        sides : (stays_behind c ≡ true) ⊎ (weight c + 4 < base_weight b) → (stays_behind c ≡ true) ⊎ (weight c + 4 < weight t)
-        sides (inl i) = inl i
-        sides (inr i) = inr (omega (arith, i, base_at_most b, at_most k.outcome))
-    by_stay (inr h) = inr (omega (arith, h, x.lower))
-
-mutual
-  pub walk_weighed : {X : Tree → Tree → Type 0} {t u : Tree} → ((b c : Tree) → X b c → Lowers ⊥ b c) → Walks X t u → Weighed ⊥ t u
-  walk_weighed f (inside {l = l} {ss = ss} h) = stands_weighed l ss absurd (inside_weighed l ss (all_walk_weighed f h))
-  walk_weighed f ((then) {b = b} {c = c} h x) = then_weighed (walk_weighed f h) (f b c x)
-  walk_weighed f (early {a = a} {b = b} x h) = early_weighed (f a b x) (walk_weighed f h)
-
-  pub all_walk_weighed : {X : Tree → Tree → Type 0} {ts us : Forest} → ((b c : Tree) → X b c → Lowers ⊥ b c) → AllWalk X ts us → AllWeighed ⊥ ts us
-  all_walk_weighed f nothing = none_weighed
-  all_walk_weighed f (both h hs) = more_weighed (walk_weighed f h) (all_walk_weighed f hs)

@@ -332,8 +332,12 @@ item_good : (i : ModuleItem) → Good is_whole_item (item_tree i)
 item_good (items.ModuleDecl d) = declaration_good d
 item_good (items.Stmt s) = widened statement_item (stmt_shaped s)
 
+-- items of a module, in a row
+pub items_shaped : (s : Span) (xs : List ModuleItem) → IsShaped (node tree.Module (s ∷ []) (list_trees item_tree xs))
+items_shaped s xs = record { shaped = (made {p = λ l. true} tree.Module (s ∷ []) refl refl (each_good item_tree (nodes_all (list_trees item_tree xs)) (λ i b. item_good i) xs (omega arith))).shaped }
+
 pub module_shaped : (m : Module) → IsShaped (module_tree m)
-module_shaped m = record { shaped = (made {p = λ l. true} tree.Module (m.span ∷ []) refl refl (each_good item_tree (nodes_all (list_trees item_tree m.body.items)) (λ i b. item_good i) m.body.items (omega arith))).shaped }
+module_shaped m = items_shaped m.span m.body.items
 
 pub script_shaped : (s : Script) → IsShaped (script_tree s)
 script_shaped s = record { shaped = (made {p = λ l. true} tree.Script (s.span ∷ []) refl refl (each_good stmt_tree (nodes_all (list_trees stmt_tree s.body.items)) (λ i b. stmt_shaped i) s.body.items (omega arith))).shaped }

@@ -10,12 +10,12 @@ use Rattle.swc_ast.specs.Core.{none_in, list_names, good_body, good_scope, fits,
 use Rattle.swc_ast.specs.Weight.{is_list}
 use Rattle.static_proofs.specs.Names.{Within, Fewer}
 use Rattle.static_proofs.specs.Keeps.{Keeps, AllKeep}
-use Rattle.static_proofs.specs.Spares.{Spared, Spares, AllSpare, exports_by, exports_all}
+use Rattle.static_proofs.specs.Spares.{Spared, Spares, exports_by, exports_all}
 use Rattle.static_proofs.specs.Together.{is_module, without_own, KeepsAll, SparesAll}
 use Rattle.static_proofs.proofs.Names.{within_same, within_none, within_append, within_trans, fewer_same, fewer_none, fewer_append, fewer_trans, fewer_within, none_within}
 use Rattle.static_proofs.proofs.Parts.{all_scopes, kept_list, all_imports, vars_joined, names_joined, all_valid, all_aimed, all_apart, all_fit}
 use Rattle.static_proofs.proofs.Inside.{one_if_kept, or_kept, list_binds_kept, body_declares_kept, good_list_kept, good_body_kept}
-use Rattle.static_proofs.proofs.Spared.{spared_same, spared_then, spared_append, spared_vars, spared_names, spared_imports, all_exports, module_binds_spared, exports_said, exports_show}
+use Rattle.static_proofs.proofs.Spared.{spared_same, spared_append, module_binds_spared, exports_said, exports_show}
 use Rattle.static_proofs.proofs.Drawn.{scopes_joined, valid_joined, aimed_joined, apart_joined, fits_joined, valid_below}
 use Rattle.static_proofs.proofs.Over.{valid_parts, aimed_parts, apart_parts, fits_parts}
 
@@ -63,9 +63,6 @@ kept_then h i = record {
   fits_kept = λ e. i.fits_kept (h.fits_kept e);
 }
 
-pub spares_together : {P : Name → Type 0} {ts us : Forest} → AllSpare P ts us → SparesAll P ts us
-spares_together ks = record { vars_spared = spared_vars ks; names_spared = spared_names ks; imports_spared = spared_imports ks; exports_kept = all_exports ks }
-
 pub spared_joined : {P : Name → Type 0} {ts us ps qs : Forest} → SparesAll P ts us → SparesAll P ps qs → SparesAll P (joined ts ps) (joined us qs)
 spared_joined {P} {ts} {us} {ps} {qs} h i = record {
   vars_spared = subst (λ z. Spared P z (vars_all (joined us qs))) (sym (vars_joined ts ps)) (subst (λ z. Spared P (vars_all ts ++ vars_all ps) z) (sym (vars_joined us qs)) (spared_append h.vars_spared i.vars_spared));
@@ -73,9 +70,6 @@ spared_joined {P} {ts} {us} {ps} {qs} h i = record {
   imports_spared = subst (λ z. Spared P z (import_names (joined us qs))) (sym (imports_joined ts ps)) (subst (λ z. Spared P (import_names ts ++ import_names ps) z) (sym (imports_joined us qs)) (spared_append h.imports_spared i.imports_spared));
   exports_kept = subst (λ z. Within z (exports_all (joined ts ps))) (sym (exports_joined us qs)) (subst (λ z. Within (exports_all us ++ exports_all qs) z) (sym (exports_joined ts ps)) (within_append h.exports_kept i.exports_kept));
 }
-
-pub spared_all_then : {P : Name → Type 0} {ts us vs : Forest} → SparesAll P ts us → SparesAll P us vs → SparesAll P ts vs
-spared_all_then h i = record { vars_spared = spared_then h.vars_spared i.vars_spared; names_spared = spared_then h.names_spared i.names_spared; imports_spared = spared_then h.imports_spared i.imports_spared; exports_kept = within_trans i.exports_kept h.exports_kept }
 
 -- the node that holds the list
 

@@ -1,9 +1,9 @@
 //! Statements, and items of modules, as what may stand in a list of statements.
 #![tactic(auto)]
 
-ghost use Rattle.std.specs.Prelude.{◌≡◌, Ok, ok_or, option_copied};
+ghost use Rattle.std.specs.Prelude.{◌≡◌, Ok, ok_or, option_copied, refl};
 ghost use Rattle.stmt_like.specs.Items.{statement_of, declaration_of};
-ghost use Rattle.stmt_like.specs.Laws.{same_statement};
+ghost use Rattle.swc_ast.specs.declared.statements.Stmt.{Stmt as Statement};
 ghost use Rattle.swc_ast.specs.declared.modules.ModuleItem.{ModuleItem as Item};
 ghost use Rattle.swc_ast.specs.declared.modules.ModuleItem.TheVariants as items;
 
@@ -15,8 +15,11 @@ pub trait StmtLike: Sized {
     ghost item: { Self → Item };
 
     /// A statement as one.
+    ghost made: { Statement → Self };
+
+    /// A statement as one.
     fn from(s: Stmt) -> Self
-        ensures { item result ≡ items.Stmt s };
+        ensures { result ≡ made s };
 
     /// The statement that it is; where it is a module declaration, it is given back.
     fn try_into_stmt(self) -> Result<Stmt, Self>
@@ -30,12 +33,14 @@ pub trait StmtLike: Sized {
     fn as_module_decl(&self) -> Option<&ModuleDecl>
         ensures { option_copied result ≡ declaration_of (item self.now) };
 
-    /// Two that stand for one item are the same.
-    ghost exact: { (x y : Self) → item x ≡ item y → x ≡ y };
+    /// It stands for the statement that it is made of.
+    ghost made_is: { (s : Statement) → item (made s) ≡ items.Stmt s };
 }
 
 impl StmtLike for Stmt {
     ghost item = { items.Stmt };
+
+    ghost made = { λ s. s };
 
     fn from(s: Stmt) -> Stmt {
         s
@@ -53,11 +58,13 @@ impl StmtLike for Stmt {
         None
     }
 
-    ghost exact = { same_statement };
+    ghost made_is = { λ s. refl };
 }
 
 impl StmtLike for ModuleItem {
     ghost item = { λ x. x };
+
+    ghost made = { items.Stmt };
 
     fn from(s: Stmt) -> ModuleItem {
         ModuleItem::Stmt(s)
@@ -84,7 +91,7 @@ impl StmtLike for ModuleItem {
         }
     }
 
-    ghost exact = { λ x y h. h };
+    ghost made_is = { λ s. refl };
 }
 
 /// A statement, as an item and back: the statement that it was.
@@ -92,14 +99,4 @@ pub fn there_and_back<T: StmtLike>(s: Stmt) -> Result<Stmt, T>
     ensures { result ≡ Ok s }
 {
     T::from(s).try_into_stmt()
-}
-
-/// What stands in a list, as a statement and back where it is one: what it was.
-pub fn back_and_there<T: StmtLike>(x: T) -> T
-    ensures { result ≡ x }
-{
-    match x.try_into_stmt() {
-        Ok(s) => T::from(s),
-        Err(x) => x,
-    }
 }

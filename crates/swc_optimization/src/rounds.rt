@@ -103,32 +103,18 @@ pub(crate) trait InRounds: Drop {
 impl InRounds for Units {
     ghost tree = { units_tree };
 
-    fn simplified(
-        mut self,
-        pass: &mut SimplifyExpr,
-        alloc: Global,
-    ) -> Result<Made<Units>, PassError> {
-        let changed = self.simplify(&pass.rules(alloc))?;
-        Ok(Made {
-            whole: self,
-            changed,
-        })
+    fn simplified(self, pass: &mut SimplifyExpr, alloc: Global) -> Result<Made<Units>, PassError> {
+        let made = self.simplify(&pass.rules(alloc))?;
+        Ok(made)
     }
 
-    fn removed(mut self, pass: &mut Remover, alloc: Global) -> Result<Made<Units>, PassError> {
-        let changed = self.remove(&pass.rules(alloc))?;
-        Ok(Made {
-            whole: self,
-            changed,
-        })
+    fn removed(self, pass: &mut Remover, alloc: Global) -> Result<Made<Units>, PassError> {
+        let made = self.remove(&pass.rules(alloc))?;
+        Ok(made)
     }
 
-    fn shaken(mut self, pass: &mut TreeShaker, alloc: Global) -> Result<Made<Units>, PassError> {
-        let changed = self.shake(alloc, pass)?;
-        Ok(Made {
-            whole: self,
-            changed,
-        })
+    fn shaken(self, pass: &mut TreeShaker, alloc: Global) -> Result<Made<Units>, PassError> {
+        self.shake(alloc, pass)
     }
 
     fn peeled(

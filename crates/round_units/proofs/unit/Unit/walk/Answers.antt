@@ -1,7 +1,20 @@
+use Rattle.std.proofs.Common.{List}
+use Rattle.std.specs.Prelude.{IfSome}
+use Rattle.swc_ast.specs.Marks.{context_number}
 use Rattle.swc_ast.specs.Modules.{item_tree}
-use Rattle.round_units.specs.Rests.{Known}
+use Rattle.swc_expr.specs.Simplifies.{simplify_pass}
+use Rattle.branch_rules.specs.Removes.{remove_pass}
+use Rattle.dce_uses.specs.Said.{Says}
+use Rattle.round_units.specs.Rests.{Rests}
 use Rattle.round_units.proofs.Resting.{known_then}
 use Rattle.round_units.proofs.unit.Unit.walk.Goals as goal
 
-pub invariant_of-self-then-not-changed : goal.invariant_of-self-then-not-changed
-invariant_of-self-then-not-changed g c = known_then (Known c.self.inside.simplified c.self.inside.removed) c.in_ok-changed.changed (item_tree c.self.inside.item) (item_tree c.walk_module_item.new.item) c.if-not-changed.true c.in_ok-changed.ensures c.self.invariant
+pub returns-else-changed-clause-known : goal.returns-else-changed-clause-known
+returns-else-changed-clause-known g c =
+    let u = c.args.self.now in
+    known_then (λ t. IfSome u.simplified (λ k. Rests (simplify_pass (context_number k)) t) × IfSome u.removed (λ k. Rests (remove_pass (context_number k)) t)) c.in_ok-changed.changed (item_tree u.item) (item_tree c.walk_module_item.new.item) c.if-changed.false c.in_ok-changed.ensures c.requires.known
+
+pub returns-else-changed-clause-said : goal.returns-else-changed-clause-said
+returns-else-changed-clause-said g c = λ names h.
+    let u = c.args.self.now in
+    known_then (λ t. IfSome u.said (λ s. Says names s t)) c.in_ok-changed.changed (item_tree u.item) (item_tree c.walk_module_item.new.item) c.if-changed.false c.in_ok-changed.ensures h

@@ -1,22 +1,45 @@
-use Rattle.std.proofs.Common.{[], ◌∷◌, subst}
+use Rattle.std.proofs.Common.{[], ◌∷◌, sym, ap, subst, ◌∙◌}
 use Rattle.swc_ast.specs.Modules.{item_tree}
 use Rattle.swc_ast.specs.Parts.{list_trees}
 use Rattle.swc_ast.specs.Tree.{Module, node}
-use Rattle.swc_ast.specs.declared.modules.Module.{Module as TheModule}
-use Rattle.static_proofs.proofs.ShapedViews.{module_shaped}
+use Rattle.swc_pass.specs.Pass.{TellsChange}
 use Rattle.dce_code.specs.Knowledge.{shaker}
-use Rattle.dce_uses.specs.Tables.{Tells}
+use Rattle.dce_uses.specs.Tables.{Tells, names_of}
 use Rattle.swc_dce.specs.Configured.{told}
+use Rattle.swc_dce.specs.Shaken.{Shaken}
 use Rattle.swc_dce.proofs.ShakeLaw.{shaken, tells}
-use Rattle.round_units.specs.Trees.{units_tree}
+use Rattle.round_units.specs.declared.unit.Unit.{Unit}
+use Rattle.round_units.specs.Held.{Held}
+use Rattle.round_units.specs.Rests.{items_in}
+use Rattle.round_units.specs.Trees.{units_tree, tree_of}
+use Rattle.static_proofs.proofs.ShapedViews.{items_shaped}
+use Rattle.round_units.proofs.Lists.{all_said, mapped, say_more}
 use Rattle.round_units.proofs.units.Units.shake.Goals as goal
+
+pub tell-requires : goal.tell-requires
+tell-requires c = record { said = all_said (names_of c.say_all.new.uses) c.say_all.new.items.items c.deref.result.now c.deref.ensures.value c.in_ok-say_all.ensures.said }
+
+pub invariant_of-whole : goal.invariant_of-whole
+invariant_of-whole c = (c.in_ok-changed.ensures.known, c.in_ok-changed.ensures.said _ (say_more c.say_all.new.items.items _ _ c.in_ok-tell.ensures.more c.in_ok-say_all.ensures.said))
 
 pub returns-clause-shaken : goal.returns-clause-shaken
 returns-clause-shaken c =
-    let u = c.args.self.now in
-    let m : TheModule = record { span = u.span; body = u.items } in
-    let told_of = subst (λ xs. Tells c.in_ok-uses.uses (node Module (u.span ∷ []) (list_trees (λ x. item_tree x) xs))) c.deref.ensures.value (c.in_ok-uses.ensures.tells (u.span ∷ [])) in
-    shaken (told c.args.names.now.unresolved_mark c.args.names.now.config) (shaker c.in_ok-rules.rules.known) c.in_ok-made.made (units_tree u) (units_tree c.shake_by.new.self) (c.in_ok-rules.ensures.made (units_tree u) told_of) (module_shaped m) c.in_ok-made.ensures
+    let s = c.self.inside.span in
+    let us = c.say_all.new.items.items in
+    let vs = c.shake_by.new.items.items in
+    let p = told c.args.names.now.unresolved_mark c.args.names.now.config in
+    let told_of =
+    subst (λ ts. Tells c.tell.new.self (node Module (s ∷ []) ts)) (sym (mapped us))
+    (subst (λ xs. Tells c.tell.new.self (node Module (s ∷ []) (list_trees (λ (u : Unit). item_tree u.item) xs))) c.deref.ensures.value (c.in_ok-tell.ensures.tells (s ∷ []))) in
+    subst (λ (m : Held). Shaken p (units_tree m) (tree_of s vs)) c.self.view_is
+    (subst (λ xs. Shaken p (node Module (s ∷ []) (list_trees item_tree xs)) (tree_of s vs)) c.in_ok-say_all.ensures.items
+    (shaken p (shaker c.in_ok-rules.rules.known) c.in_ok-changed.changed (tree_of s us) (tree_of s vs) (c.in_ok-rules.ensures.made (tree_of s us) told_of) (items_shaped s (items_in us)) (c.in_ok-changed.ensures.shaken s)))
 
 pub returns-clause-changed : goal.returns-clause-changed
-returns-clause-changed c = tells (shaker c.in_ok-rules.rules.known) c.in_ok-made.made (units_tree c.args.self.now) (units_tree c.shake_by.new.self) c.in_ok-made.ensures
+returns-clause-changed c =
+    let s = c.self.inside.span in
+    let us = c.say_all.new.items.items in
+    let vs = c.shake_by.new.items.items in
+    subst (λ (m : Held). TellsChange c.in_ok-changed.changed (units_tree m) (tree_of s vs)) c.self.view_is
+    (subst (λ xs. TellsChange c.in_ok-changed.changed (node Module (s ∷ []) (list_trees item_tree xs)) (tree_of s vs)) c.in_ok-say_all.ensures.items
+    (tells (shaker c.in_ok-rules.rules.known) c.in_ok-changed.changed (tree_of s us) (tree_of s vs) (c.in_ok-changed.ensures.shaken s)))

@@ -1,0 +1,53 @@
+-- What items say of names that go by numbers.
+use Rattle.std.specs.Prelude.{Bool, false, ◌≡◌, ◌<◌, ◌&&◌, ◌||◌, ⊤, ℕ, nat_eq, List, [], ◌∷◌, length, Option, IfSome, option_map, position, unwrap_or}
+use Rattle.stmt_like.specs.Kept.{IsIn}
+use Rattle.swc_ast.specs.declared.modules.ModuleItem.{ModuleItem}
+use Rattle.swc_ast.specs.Modules.{item_tree}
+use Rattle.swc_ast.specs.Tree.{Name, same_name, Tree, label_of, children_of}
+use Rattle.dce_uses.specs.declared.said.Row.{Row}
+use Rattle.dce_uses.specs.declared.said.Said.{Said}
+use Rattle.dce_uses.specs.declared.table.Table.{Table}
+use Rattle.dce_uses.specs.declared.tally.Fact.{Fact}
+use Rattle.dce_uses.specs.declared.uses.Uses.{Uses}
+use Rattle.dce_uses.specs.Exports.{is_nameless_export}
+use Rattle.dce_uses.specs.Items.{item_says}
+use Rattle.dce_uses.specs.Tables.{Notes, fact_of, holds, names_of}
+
+-- whether a name has a number among names
+abbrev pub is_number : List Name → Name → ℕ → Bool
+is_number ns x n = unwrap_or (option_map (nat_eq n) (position (same_name x) ns)) false
+
+-- what a row tells of a name
+abbrev pub row_says : List Name → Row → Fact → Name → Bool
+row_says ns r f x = holds r.tally f && is_number ns x r.number
+
+-- what rows tell of a name
+abbrev pub rows_say : List Name → List Row → Fact → Name → Bool
+rows_say ns [] f x = false
+rows_say ns (r ∷ rs) f x = row_says ns r f x || rows_say ns rs f x
+
+-- Each row is that of a name.
+abbrev pub AreNumbered : List Name → List Row → Type 0
+AreNumbered ns [] = ⊤
+AreNumbered ns (r ∷ rs) = (r.number < length ns) × AreNumbered ns rs
+
+-- An item says this.
+pub record Says (ns : List Name) (s : Said) (t : Tree) : Type 0 where
+  pub numbers : AreNumbered ns s.rows.items
+  pub facts : (f : Fact) (x : Name) → rows_say ns s.rows.items f x ≡ item_says (label_of t) (children_of t) f x
+  pub default : s.exports_default ≡ is_nameless_export (label_of t)
+
+-- Items of which is known what they say say that.
+abbrev pub AllSaid : {X : Type 0} → List Name → (X → ModuleItem) → (X → Option Said) → List X → Type 0
+AllSaid {X} ns item tells xs = (x : X) → IsIn x xs → IfSome (tells x) (λ s. Says ns s (item_tree (item x)))
+
+-- Rows tell what was noted in a table, which keeps its names.
+pub record Takes (u v : Table) (rs : List Row) : Type 0 where
+  pub names : v.names ≡ u.names
+  pub numbers : AreNumbered u.names rs
+  pub facts : (f : Fact) (x : Name) → rows_say u.names rs f x ≡ fact_of u f x
+
+-- What an item says is noted.
+pub record Adds (u v : Uses) (s : Said) : Type 0 where
+  pub table : Notes u.table v.table (rows_say (names_of u) s.rows.items)
+  pub default : v.exports_default ≡ (u.exports_default || s.exports_default)

@@ -1,0 +1,30 @@
+//! What items of a module say of names.
+ghost use Rattle.std.specs.Prelude.{◌≡◌, Option, option_copied};
+ghost use Rattle.dce_uses.specs.declared.said.Said as said_of;
+
+use crate::tally::Tally;
+use stmt_like::StmtLike;
+
+/// What was noted of a name, which goes by its number.
+#[derive(Clone, Copy)]
+pub(crate) struct Row {
+    pub(crate) number: usize,
+    pub(crate) tally: Tally,
+}
+
+/// What an item of a module says of names, each by its number in a table of names.
+#[derive(Drop)]
+pub struct Said {
+    pub(crate) rows: Vec<Row>,
+    pub(crate) exports_default: bool,
+}
+
+/// An item of which is known what it says, or not.
+pub trait Speaks: StmtLike {
+    /// What it says, if that is known.
+    ghost tells: { Self → Option said_of.Said };
+
+    /// What it says, if that is known.
+    fn said(&self) -> Option<&Said>
+        ensures { option_copied result ≡ tells self.now };
+}
