@@ -39,12 +39,6 @@ moved_same mark t e r k is at h =
     by : expr_tree e ≡ t → Ignores mark false t (Some (expr_tree r))
     by same = at_tree mark false t (ap Some (ap expr_tree at ∙ same)) (stays t)
 
-pub moved_other : (mark : ℕ) (t u : Tree) (e : Expr) (k : Rest) → k ≡ rest.Other e → Rested mark t u k → Ignores mark (is_change k) t (tree_of (Some e))
-moved_other mark t u e k is h = subst (λ x. Ignores mark (is_change x) t (tree_of (Some e))) (sym is) (subst (Rested mark t u) is h)
-
-pub moved_nothing : (mark : ℕ) (t u : Tree) (k : Rest) → k ≡ rest.Nothing → Rested mark t u k → Ignores mark (is_change k) t None
-moved_nothing mark t u k is h = subst (λ x. Ignores mark (is_change x) t None) (sym is) (subst (Rested mark t u) is h)
-
 pub itself_goes : (mark : ℕ) (t r : Tree) → Itself mark t r → Ignores mark true t None
 itself_goes mark t r p = subst (λ x. Ignores mark true x None) (sym p.is) (itself p.name p.spans p.value_spans p.bound)
 

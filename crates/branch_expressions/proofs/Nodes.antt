@@ -14,7 +14,6 @@ use Rattle.swc_utils.specs.Effects.{has_record_spread, is_record_spread}
 use Rattle.swc_utils.specs.Pure.{has_spread, is_pure_callee}
 use Rattle.swc_utils.proofs.Chains.{joined_assoc, joined_none}
 use Rattle.branch_rules.specs.Ignored.{Ignores, opened, none_left, one_goes, one_left, sides, items, properties, texts, arguments, new_arguments, is_function_expression, as_one, may_skip, property_parts, properties_parts}
-use Rattle.branch_rules.specs.Expressions.{ExpressionStep}
 use Rattle.branch_expressions.specs.Choices.{only_tree}
 use Rattle.branch_expressions.specs.Properties.{own_parts}
 use Rattle.branch_expressions.specs.Left.{Adds, Leaves, is_change, tree_of}
@@ -61,9 +60,6 @@ only_left mark o ss a b (Some v) (Some w) m ga gb h k = opened ss (sides o ss a 
 pub properties_joined : (mark : ℕ) (ts us : Forest) → properties_parts mark (joined ts us) ≡ joined (properties_parts mark ts) (properties_parts mark us)
 properties_joined mark ε us = refl
 properties_joined mark (t ⊳ ts) us = ap (joined (property_parts mark t)) (properties_joined mark ts us) ∙ sym (joined_assoc (property_parts mark t) (properties_parts mark ts) (properties_parts mark us))
-
-pub undefined_arms : (mark : ℕ) (ss : List Span) (t u v : Tree) (e : Expr) → ExpressionStep mark (node tree.Cond ss (t ⊳ u ⊳ v ⊳ ε)) u → expr_tree e ≡ u → ExpressionStep mark (node tree.Cond ss (t ⊳ u ⊳ v ⊳ ε)) (expr_tree e)
-undefined_arms mark ss t u v e h is = subst (ExpressionStep mark (node tree.Cond ss (t ⊳ u ⊳ v ⊳ ε))) (sym is) h
 
 pub properties_row : (mark : ℕ) (xs ys : List PropOrSpread) → properties_parts mark (list_trees prop_or_spread_tree (xs ++ ys)) ≡ joined (properties_parts mark (list_trees prop_or_spread_tree xs)) (properties_parts mark (list_trees prop_or_spread_tree ys))
 properties_row mark xs ys = ap (properties_parts mark) (row_joined prop_or_spread_tree xs ys) ∙ properties_joined mark (list_trees prop_or_spread_tree xs) (list_trees prop_or_spread_tree ys)

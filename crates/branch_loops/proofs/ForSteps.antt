@@ -45,9 +45,6 @@ part_unchanged mark t = part_same refl
 pub part_kept : (mark : ℕ) (t u x y : Tree) (k : LeftKind) → k ≡ left.Same → IsLeft mark x y k → x ≡ t → u ≡ y → PartLeft mark t u false
 part_kept mark t u x y k is h a b = part_same (b ∙ subst (IsLeft mark x y) is h ∙ a)
 
-expression_at : {t : Tree} (e : Expr) → expr_tree e ≡ t → is_expression (label_of t) ≡ true
-expression_at e is = subst (λ x. is_expression (label_of x) ≡ true) is (is_an_expression e)
-
 pub part_other : (mark : ℕ) (t u : Tree) (e f : Expr) (k : LeftKind) → k ≡ left.Changed → IsLeft mark (expr_tree e) (expr_tree f) k → expr_tree e ≡ t → u ≡ expr_tree f → PartLeft mark t u true
 part_other mark t u e f k is h a b =
     subst (λ x. PartLeft mark x u true) a (subst (λ x. PartLeft mark (expr_tree e) x true) (sym b) (part_changed (is_an_expression e) (part_left (expr_tree e) (expr_tree f) (is_an_expression f) (subst (IsLeft mark (expr_tree e) (expr_tree f)) is h))))

@@ -4,7 +4,7 @@ use Rattle.std.proofs.lemmas.List.{append_assoc, take_all}
 use Rattle.swc_ast.specs.SameLaws.{impossible}
 use Rattle.swc_ast.specs.Parts.{absent, list_trees}
 use Rattle.swc_ast.specs.Statements.{block_tree, do_while_node}
-use Rattle.swc_ast.specs.Tree.{Block, DoWhile, Empty, FnDecl, For, Tree, node, Forest, ε, ◌⊳◌}
+use Rattle.swc_ast.specs.Tree.{Block, DoWhile, Empty, For, Tree, node, ε, ◌⊳◌}
 use Rattle.swc_ast.specs.Views.{expr_tree, loop_trees, stmt_tree}
 use Rattle.swc_ast.specs.declared.Span.{Span}
 use Rattle.swc_ast.specs.declared.statements.BlockStmt.{BlockStmt}
@@ -19,14 +19,14 @@ use Rattle.swc_utils.specs.Known.{truth, pure_truth}
 use Rattle.swc_utils.specs.Pure.{pure}
 use Rattle.pass_proofs.proofs.ExprTrees.{is_an_expression}
 use Rattle.branch_rules.specs.Jumps.{Sought, every, escapes, some_escape}
-use Rattle.branch_rules.specs.Once.{looping, is_jump, all_functions, whole, a_jump, inside, do_once}
+use Rattle.branch_rules.specs.Once.{looping, is_jump, whole, a_jump, inside, do_once}
 use Rattle.branch_rules.specs.Removes.{statement, once}
 use Rattle.branch_rules.specs.Statements.{is_plain, do_true}
 use Rattle.branch_rules.specs.Turns.{Turns, by_rule, as_it_was}
 use Rattle.branch_expressions.proofs.Adding.{row_joined}
 use Rattle.branch_expressions.proofs.Made.{pure_known}
 use Rattle.branch_parts.proofs.GivesNothing.{stmt_gives_nothing}
-use Rattle.branch_loops.specs.Runs.{is_function_tree, Once, runs_once, stays_round, JumpAt, Passed}
+use Rattle.branch_loops.specs.Runs.{Once, runs_once, stays_round, JumpAt, Passed}
 
 pub once_jump : (k : Sought) (t u : Tree) (s : Stmt) (ss : List Span) → is_jump t ≡ true → stmt_tree s ≡ node Empty ss ε → Once k t u (Some s)
 once_jump k t u s ss h is = runs_once ss (a_jump t h) is
@@ -98,9 +98,6 @@ none_more : (k : Sought) (xs : List Stmt) (s : Stmt) → some_escape (looping k)
 none_more k [] s h e = both_false _ false e refl
 none_more k (x ∷ xs) s h e = let p = parts_false (escapes (looping k) (stmt_tree x)) _ h in both_false (escapes (looping k) (stmt_tree x)) _ p.0 (none_more k xs s p.1 e)
 
-pub passed_none : (k : Sought) (i : ℕ) (ss left : List Stmt) → i ≡ 0 → ss ≡ left → Passed k i ss left
-passed_none k i ss left none is = record { front = []; is = is; place = sym none; before = refl }
-
 pub passed_more : (k : Sought) (i j : ℕ) (ss left rest : List Stmt) (s : Stmt) → Passed k i ss left → left ≡ s ∷ rest → j ≡ i + 1 → escapes (looping k) (stmt_tree s) ≡ false → Passed k j ss rest
 passed_more k i j ss left rest s p is next h = record {
   front = p.front ++ s ∷ [];
@@ -108,16 +105,6 @@ passed_more k i j ss left rest s p is next h = record {
   place = length-append p.front (s ∷ []) ∙ ap (λ m. m + 1) p.place ∙ sym next;
   before = none_more k p.front s p.before h;
 }
-
-pub jump_at : (k : Sought) (i : ℕ) (ss left rest : List Stmt) (s : Stmt) → Passed k i ss left → left ≡ s ∷ rest → is_jump (stmt_tree s) ≡ true → all_functions (list_trees stmt_tree rest) ≡ true → JumpAt k i ss
-jump_at k i ss left rest s p is h f = record { front = p.front; jump = s; rest = rest; is = p.is ∙ ap (λ xs. p.front ++ xs) is; place = p.place; before = p.before; jumps = h; functions = f }
-
-first_function : (t : Tree) (ts : Forest) → is_function_tree t ≡ true → all_functions (t ⊳ ts) ≡ all_functions ts
-first_function (node (FnDecl x) ss cs) ts h = refl
-first_function (node _ ss cs) ts h = impossible h
-
-pub functions_on : (left rest : List Stmt) (s : Stmt) (g : Bool) → left ≡ s ∷ rest → is_function_tree (stmt_tree s) ≡ true → g ≡ all_functions (list_trees stmt_tree left) → g ≡ all_functions (list_trees stmt_tree rest)
-functions_on left rest s g is h e = e ∙ ap (λ xs. all_functions (list_trees stmt_tree xs)) is ∙ first_function (stmt_tree s) (list_trees stmt_tree rest) h
 
 -- the first of what is left, and what stands behind it
 pub first_left : (left : List Stmt) (s : Stmt) → 1 ≤ length left → s ≡ get_or left 0 s → left ≡ s ∷ take (length left - 1) (drop 1 left)

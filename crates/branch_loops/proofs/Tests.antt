@@ -6,7 +6,7 @@ use Rattle.std.proofs.lemmas.Result.{IfOk-weaker}
 use Rattle.swc_ast.specs.Parts.{tree_or_absent}
 use Rattle.swc_ast.specs.Redex.{is_truth}
 use Rattle.swc_ast.specs.SameLaws.{impossible}
-use Rattle.swc_ast.specs.Statements.{while_node, do_while_node}
+use Rattle.swc_ast.specs.Statements.{while_node}
 use Rattle.swc_ast.specs.Tree.{BoolLit, Tree, node}
 use Rattle.swc_ast.specs.Views.{expr_tree, for_tree, loop_trees}
 use Rattle.swc_ast.specs.declared.expressions.Expr.{Expr}
@@ -47,9 +47,6 @@ and_false false b h = refl
 pub while_rests : (n : WhileStmt) → is_truth false (expr_tree n.test.value) ≡ false → Rests (while_node (loop_trees n))
 while_rests n h = ap (λ p. kind_at statement_redex (while_node p)) (loop_trees-is n) ∙ and_false _ _ h
 
-pub do_rests : (n : WhileStmt) → Rests (do_while_node (loop_trees n))
-do_rests n = and_false _ false refl
-
 pub for_rests : (n : ForStmt) → is_truth true (tree_or_absent expr_tree n.test) ≡ false → Rests (for_tree n)
 for_rests n h = ap (kind_at statement_redex) (for_tree-is n) ∙ and_false _ _ h
 
@@ -60,7 +57,3 @@ turned_same (as_it_was e) n = e
 
 pub finished_by : {E : Type 0} (mark : ℕ) (r : Result (Option Stmt) E) (t u : Tree) → IfOk r (λ o. Turns mark t u o) → Rests t → IfOk r (λ o. IsNone o → Rests u)
 finished_by mark r t u h k = IfOk-weaker r (λ o. Turns mark t u o) (λ o. IsNone o → Rests u) (λ o g n. subst Rests (sym (turned_same g n)) k) h
-
--- one look behind another that changed nothing
-pub then_turns : (mark : ℕ) (t u v : Tree) (o p : Option Stmt) → Turns mark t u o → IsNone o → Turns mark u v p → Turns mark t v p
-then_turns mark t u v o p h n k = subst (λ x. Turns mark x v p) (turned_same h n) k

@@ -1,6 +1,6 @@
 //! A `do` in the body of a loop that runs its body once. Blocks, conditions, labels, `try` and `switch` may stand between the
 //! two. The labels that are passed on the way are told: they may be those of the `do`.
-ghost use Rattle.std.specs.Prelude.{◌≡◌, ◌∷◌, [], IfOk};
+ghost use Rattle.std.specs.Prelude.{◌≡◌, IfOk};
 ghost use Rattle.swc_ast.specs.Parts.{optional_trees};
 ghost use Rattle.swc_ast.specs.Statements.{block_tree, do_while_node, labeled_tree, option_block_tree, try_tree, while_node};
 ghost use Rattle.swc_ast.specs.Views.{case_trees, for_tree, if_tree, loop_trees, stmt_tree, switch_tree};

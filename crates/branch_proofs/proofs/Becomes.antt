@@ -5,7 +5,7 @@ use Rattle.swc_ast.specs.Value.{and_then, Context, Meaning}
 use Rattle.swc_ast.specs.Scope.{joined}
 use Rattle.swc_ast.specs.Meaning.{◌>>=◌, Caller, eval, evals, run_all}
 use Rattle.swc_ast.specs.Call.{each_of, call_at}
-use Rattle.meaning_proofs.specs.Exact.{Refines, Exact, ListExact}
+use Rattle.meaning_proofs.specs.Exact.{Refines, ListExact}
 use Rattle.swc_utils.proofs.Refines.{refines_same, refines_then, refines_trans}
 use Rattle.pass_proofs.proofs.Refines.{refines_path}
 use Rattle.pass_proofs.proofs.Runs.{bind_chain, bind_same}
@@ -42,8 +42,3 @@ pub becomes_list : {mark : ℕ} {ts us : Forest} → Becomes mark ts us → List
 becomes_list {mark} {ts} {us} h = record {
   by = λ n d c. (subst (λ ms. Refines (run_all ms c) (run_all (each_of (eval mark n (call_at (eval mark n) d)) us) c)) (evals_are mark n (call_at (eval mark n) d) ts) (subst (λ ms. Refines (run_all (evals mark n (call_at (eval mark n) d) ts) c) (run_all ms c)) (evals_are mark n (call_at (eval mark n) d) us) (h.by n d c)));
 }
-
--- what is exact for one tree
-pub exact_becomes : {mark : ℕ} {t u : Tree} → Exact mark t u → Becomes mark (t ⊳ ε) (u ⊳ ε)
-unfolding run_all evals
-exact_becomes h = record { by = λ n d c. refines_then (h.by n d c) (λ v. refines_same _) }

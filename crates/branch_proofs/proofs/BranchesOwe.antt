@@ -80,10 +80,6 @@ pub record PartedNames (xs ys zs : List Name) : Type 0 where
 append_parts : (x : Name) (xs ys : List Name) → has_name x (xs ++ ys) ≡ true → (has_name x xs ≡ true) ⊎ (has_name x ys ≡ true)
 append_parts x xs ys h = or_cases (has_name x xs) (has_name x ys) (sym (has_name_append x xs ys) ∙ h)
 
-swap_parts : {A B : Type 0} → A ⊎ B → B ⊎ A
-swap_parts (inl a) = inr a
-swap_parts (inr b) = inl b
-
 chosen_vars : {arms kept gone : Forest} → Chooses arms kept gone → PartedNames (vars_all arms) (vars_all kept) (vars_all gone)
 chosen_vars (only_arm {a = a}) = record { first_in = within_same _; second_in = within_none _; parted = λ x h. inl h }
 chosen_vars (no_arm {a = a}) = record { first_in = within_none _; second_in = within_same _; parted = λ x h. inr h }

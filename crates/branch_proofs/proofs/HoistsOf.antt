@@ -28,10 +28,6 @@ once_fewer seen (x ∷ xs) = by_seen (has_name x seen) (once_fewer seen xs) (onc
     by_seen true h i = omega arith
     by_seen false h i = omega arith
 
-is_some : List Name → Bool
-is_some [] = false
-is_some (x ∷ xs) = true
-
 pub once_none : (xs : List Name) → [] ≡ each_once [] xs → xs ≡ []
 once_none [] h = refl
 once_none (x ∷ xs) h = cc

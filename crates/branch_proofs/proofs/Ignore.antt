@@ -22,7 +22,7 @@ use Rattle.pass_proofs.proofs.Refines.{refines_path, refines_where}
 use Rattle.pass_proofs.proofs.Truths.{truth_keeps}
 use Rattle.pass_proofs.proofs.Runs.{bind_chain, bind_same}
 use Rattle.swc_utils.proofs.Typed.{type_holds}
-use Rattle.branch_proofs.proofs.Becoming.{Becomes, left_of}
+use Rattle.branch_proofs.proofs.Becoming.{left_of}
 use Rattle.branch_rules.specs.Ignored.{as_one, Opens, operand, sides, items, properties, texts, arguments, new_arguments, Ignores, stays, goes, itself, opened, sequence, right_goes, right_left, right_runs, right_skipped, never_nullish, always_nullish, items_left, properties_left, arm_runs, arms_go, second_goes, first_goes, arms_left, IgnoresAll, none_left, one_goes, one_left, one_opens, ItemsLeft, no_items, item_goes, item_left, spread_stays, hole_goes, PropertiesLeft, no_properties, property_goes, property_stays}
 use Rattle.branch_proofs.proofs.Becomes.{run_behind}
 use Rattle.branch_proofs.proofs.Dropped.{Idle, idle_leaves, drop_then, then_idle, drop_both, dropped_first, made_dropped, turn_is, values_dropped, template_dropped, operand_idle, operate_idle, operate_both, operate_right, operate_runs, operate_skipped, nullish_by_type, nullish_left, if_idle, if_both, if_and, if_or, merged_left, merged_both, given_idle, gone, left_dropped}
@@ -160,11 +160,3 @@ module _ (mark n d : ℕ) where
     properties_run no_properties fs gs c = fields_ended fs gs c
     properties_run (property_goes k ss rs v {cs} {vs} l e r) fs gs c = field_gone (does (node KeyValue ss (node (PlainKey k) rs ε ⊳ v ⊳ ε))) (evals mark n (call_at (eval mark n) d) cs) fs c (pure_is_still mark n d (node KeyValue ss (node (PlainKey k) rs ε ⊳ v ⊳ ε)) (property_pure mark k ss rs v e) c) (λ ps. properties_run r ps gs c)
     properties_run (property_stays t {cs} {vs} r) fs gs c = field_stayed (does t) (evals mark n (call_at (eval mark n) d) cs) (evals mark n (call_at (eval mark n) d) vs) fs gs c (λ ps qs. properties_run r ps qs c)
-
--- what is left of expressions stands for them
-pub ignores_becomes : {mark : ℕ} {k : Bool} {t : Tree} {o : Option Tree} → Ignores mark k t o → Becomes mark (t ⊳ ε) (left_of o)
-unfolding run_all evals
-ignores_becomes {mark} r = record { by = λ n d c. ignores_run mark n d r c }
-
-pub ignores_all_become : {mark : ℕ} {k : Bool} {ts us : Forest} → IgnoresAll mark k ts us → Becomes mark ts us
-ignores_all_become {mark} r = record { by = λ n d c. ignores_all_run mark n d r c }

@@ -1,24 +1,22 @@
 -- Statements that become others may stand for one another, in a list and by themselves.
-use Rattle.std.proofs.Common.{◌≡◌, ℕ, true, false, ◌||◌, List, [], ◌++◌, refl, sym, ap, ◌∙◌, append-nil}
+use Rattle.std.proofs.Common.{◌≡◌, ℕ, true, false, List, [], ◌++◌, refl, sym, ap, ◌∙◌, append-nil}
 use Rattle.std.proofs.lemmas.Bool.{false≢true, and_parts}
 use Rattle.swc_ast.specs.declared.Span.{Span}
 use Rattle.swc_ast.specs.declared.VarDeclKind.TheVariants.{Let}
-use Rattle.swc_ast.specs.Tree.{Name, Block, Empty, Throw, ExprStmt, Return, If, While, DoWhile, For, Labeled, Break, Continue, Switch, Try, VarDecl, FnDecl, Tree, node, Forest, ε, ◌⊳◌, label_of}
+use Rattle.swc_ast.specs.Tree.{Block, Empty, Throw, ExprStmt, Return, If, While, DoWhile, For, Labeled, Break, Continue, Switch, Try, VarDecl, FnDecl, Tree, node, Forest, ε, ◌⊳◌, label_of}
 use Rattle.swc_ast.specs.Value.{Value, Undefined, Outcome, Done, Jumps, Outside, Cut, Run, and_then, Context}
-use Rattle.swc_ast.specs.Scope.{has_name, found, is_found, vars, vars_all, declared_by, declared, joined, list_binds, Declared}
+use Rattle.swc_ast.specs.Scope.{has_name, found, is_found, vars, vars_all, declared_by, declared, list_binds, Declared}
 use Rattle.swc_ast.specs.Meaning.{◌>>=◌, gives, run_all, Caller, list_cells, in_list_scope, copied_names, act, eval, evals}
 use Rattle.swc_ast.specs.Call.{call_at}
-use Rattle.meaning_proofs.specs.Exact.{Exact, ListExact}
+use Rattle.meaning_proofs.specs.Exact.{Exact}
 use Rattle.swc_utils.specs.Holds.{Is, Where}
 use Rattle.swc_utils.proofs.Refines.{refines_trans}
 use Rattle.pass_proofs.proofs.Refines.{refines_path}
 use Rattle.meaning_proofs.specs.Names.{Names}
-use Rattle.meaning_proofs.specs.Roles.{is_part, holds_function, Fits, changed, SameLists}
-use Rattle.meaning_proofs.proofs.Finds.{or_else, has_cons, found_cons, has_joined, found_joined}
+use Rattle.meaning_proofs.specs.Roles.{is_part, holds_function, Fits, changed}
 use Rattle.meaning_proofs.proofs.ListRules.{in_nothing}
 use Rattle.branch_proofs.proofs.Becoming.{Becomes, SameVars}
 use Rattle.branch_rules.specs.Statements.{gives_nothing, all_give_nothing, as_statement}
-use Rattle.branch_proofs.proofs.Becomes.{becomes_same, becomes_first, becomes_list}
 use Rattle.branch_proofs.proofs.Undefined.{Nothing, statement_nothing}
 use mathlib.Core.Path.{fun_ext}
 
@@ -51,10 +49,6 @@ module _ (mark : ℕ) (rs : List Span) where
   becomes_exact t us h g e b = record {
     by = λ n d c. refines_trans (refines_path (sym (discarded (h n d c)))) (refines_trans (b.by n d c) (refines_path (standing us g e n d c)));
   }
-
--- and in front of others
-pub statement_list : (mark : ℕ) (t : Tree) (us ts : Forest) → Becomes mark (t ⊳ ε) us → ListExact mark (t ⊳ ts) (joined us ts)
-statement_list mark t us ts h = becomes_list (becomes_first mark t us ts ts h (becomes_same mark ts))
 
 -- names
 
@@ -107,13 +101,3 @@ module _ {N : Names} where
         functions = λ x q v. ap (λ ps. holds_function (found x ps)) (e.before ∙ sym d) ∙ v;
         copied = λ x keeps. ap (is_found x) (no_copies t e.before ∙ sym (no_copies (as_statement rs us) d));
       })
-
-  pub statement_lists : (t : Tree) (us ts : Forest) → SameVars t us → SameLists N (t ⊳ ts) (joined us ts)
-  statement_lists t us ts e =
-      let d = λ (x : Name). found_cons x t ts ∙ ap (λ ps. or_else (found x ps) (found x (declared ts))) (e.before ∙ sym e.behind) ∙ sym (found_joined x us ts) in
-      record {
-        vars = λ x w z. has_cons x t ts ∙ ap (λ b. b || has_name x (vars_all ts)) (e.vars x) ∙ sym (has_joined x us ts);
-        guarded_vars = λ x q v. sym (has_cons x t ts ∙ ap (λ b. b || has_name x (vars_all ts)) (e.vars x) ∙ sym (has_joined x us ts)) ∙ v;
-        declares = λ x keeps. d x;
-        functions = λ x q v. ap holds_function (d x) ∙ v;
-      }

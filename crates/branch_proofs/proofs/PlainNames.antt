@@ -47,10 +47,6 @@ pub plain_imports : (ts : Forest) → all_plain ts ≡ true → import_names ts 
 plain_imports ε h = refl
 plain_imports (node l ss cs ⊳ ts) h = let p = and_parts (is_plain_statement l) (all_plain ts) h in ap₂ ◌++◌ (plain_nothing (node l ss cs) p.0).no_imports (plain_imports ts p.1)
 
-pub plain_exports : (ts : Forest) → all_plain ts ≡ true → exports_all ts ≡ []
-plain_exports ε h = refl
-plain_exports (node l ss cs ⊳ ts) h = let p = and_parts (is_plain_statement l) (all_plain ts) h in ap₂ ◌++◌ (plain_nothing (node l ss cs) p.0).no_exports (plain_exports ts p.1)
-
 -- each `var` name weighs 4
 
 own_vars_weight : (l : Label) (cs : Forest) → 4 * length (own_vars l) ≤ own_weight l cs

@@ -42,11 +42,6 @@ unfolding object_fields run_all and_then
 fields_run [] fs c = refines_same _
 fields_run (m ∷ ms) fs c = drop_then (m c) _ _ (λ v. merged_left fs v (λ gs. object_fields ms gs c) _ (λ gs. fields_run ms gs c))
 
-no_shape : (ms : List Meaning) (c : Context) {k : Run Value} → Refines (drop (shape0 (λ c. leaves) ms c)) k
-unfolding and_then
-no_shape [] c = refines_leaves
-no_shape (m ∷ ms) c = refines_leaves
-
 shape0_run : (f : Meaning) (ms : List Meaning) (c : Context) {k : Run Value} → Refines (drop (f c)) k → Refines (drop (shape0 f ms c)) k
 unfolding and_then
 shape0_run f [] c h = h

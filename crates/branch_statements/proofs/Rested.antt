@@ -184,9 +184,6 @@ unknown_rests mark s t arms k h = and_none (none_listed (t ⊳ arms)) _ (if_own 
 
 -- blocks, labels and `try`
 
-pub labelled_rests : (l : tree.Text) (ss : List Span) (cs : Forest) → Rests (node (tree.Labeled l) ss cs)
-labelled_rests l ss cs = and_none (none_listed cs) false refl
-
 try_own : (p : Option (Option Name)) (bs : List Span) (xs : List Stmt) (cs : Forest) → (length xs ≡ 0 → ⊥) → own_redex (tree.Try p) (node tree.Block bs (list_trees stmt_tree xs) ⊳ cs) ≡ false
 try_own p bs [] cs h = absurd (h refl)
 try_own p bs (x ∷ xs) cs h = refl

@@ -1,8 +1,8 @@
 -- What is planned from what is found.
-use Rattle.std.proofs.Common.{◌≡◌, ℕ, ◌+◌, ◌<◌, ◌≤◌, true, false, not, ◌&&◌, List, [], ◌∷◌, ◌++◌, suc, length, take, drop, get_or, refl, sym, ap, subst, ◌∙◌}
+use Rattle.std.proofs.Common.{◌≡◌, ℕ, ◌+◌, ◌<◌, true, false, not, ◌&&◌, List, [], ◌∷◌, ◌++◌, suc, length, take, drop, get_or, refl, sym, ap, subst, ◌∙◌}
 use Rattle.std.proofs.Math.Seq.{drop-cons}
 use Rattle.std.proofs.lemmas.Bool.{and_parts, and_from}
-use Rattle.std.proofs.lemmas.List.{map-append, take_all, take_more}
+use Rattle.std.proofs.lemmas.List.{map-append, take_more}
 use Rattle.swc_ast.specs.declared.statements.SwitchCase.{SwitchCase}
 use Rattle.swc_ast.specs.Tree.{Tree}
 use Rattle.swc_ast.specs.Value.{Value}
@@ -53,6 +53,3 @@ pub plain_more : (cs : List SwitchCase) (i : ℕ) (c : SwitchCase) → i < lengt
 plain_more cs i c within at e f =
     subst (λ ks. plain_bodies ks ≡ true) (sym (ap clauses (take_more cs i c within ∙ ap (λ y. take i cs ++ y ∷ []) (sym at)) ∙ map-append clause (take i cs) (c ∷ [])))
     (plain_both (clauses (take i cs)) (clause c ∷ []) e (and_from (all_plain (clause c).body) true f refl))
-
-pub no_default_all : (cs : List SwitchCase) (i : ℕ) → length cs ≤ i → no_default (clauses (take i cs)) ≡ true → no_default (clauses cs) ≡ true
-no_default_all cs i within h = subst (λ ds. no_default (clauses ds) ≡ true) (take_all i cs within) h

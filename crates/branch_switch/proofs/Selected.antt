@@ -1,6 +1,6 @@
 -- A `switch` of which it is known what it selects.
-use Rattle.std.proofs.Common.{◌≡◌, ℕ, ◌+◌, ◌<◌, ◌≤◌, true, false, List, [], ◌∷◌, ◌++◌, length, take, drop, get_or, sym, ap, subst, ◌∙◌}
-use Rattle.std.proofs.lemmas.List.{map-append, take_all, take_more}
+use Rattle.std.proofs.Common.{◌≡◌, ℕ, ◌+◌, ◌<◌, true, false, List, [], ◌∷◌, ◌++◌, length, take, drop, get_or, sym, ap, subst, ◌∙◌}
+use Rattle.std.proofs.lemmas.List.{map-append, take_more}
 use Rattle.swc_ast.specs.declared.Span.{Span}
 use Rattle.swc_ast.specs.declared.expressions.Expr.{Expr}
 use Rattle.swc_ast.specs.declared.statements.Stmt.{Stmt}
@@ -28,9 +28,6 @@ passed_both mark v (over_default k e p) i = over_default k e (passed_both mark v
 pub passed_more : (mark : ℕ) (v : Value) (cs : List SwitchCase) (i : ℕ) (c : SwitchCase) → i < length cs → c ≡ get_or cs i c → Passed mark v (clauses (take i cs)) → Passed mark v (clause c ∷ []) → Passed mark v (clauses (take (i + 1) cs))
 passed_more mark v cs i c within at h k =
     subst (Passed mark v) (sym (ap clauses (take_more cs i c within ∙ ap (λ y. take i cs ++ y ∷ []) (sym at)) ∙ map-append clause (take i cs) (c ∷ []))) (passed_both mark v h k)
-
-pub passed_all : (mark : ℕ) (v : Value) (cs : List SwitchCase) (i : ℕ) → length cs ≤ i → Passed mark v (clauses (take i cs)) → Passed mark v (clauses cs)
-passed_all mark v cs i within h = subst (λ ds. Passed mark v (clauses ds)) (take_all i cs within) h
 
 -- no case
 pub none_switched : (mark : ℕ) (span : Span) (rs : List Span) (d : Expr) (cs : List SwitchCase) (o b gs : Forest) (s : Stmt) → SelectsNone mark (expr_tree d) (clauses cs) → o ≡ ε → gs ≡ bodies_of (clauses cs) → VarsBehind gs o b → stmt_tree s ≡ as_statement rs b → Switched mark span (expr_tree d) (clauses cs) s

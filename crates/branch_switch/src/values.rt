@@ -1,6 +1,6 @@
 //! Values that are known without a run.
 ghost use Rattle.std.specs.Prelude.{◌≡◌, true, IfOk, IfSome, IsTrue, Some};
-ghost use Rattle.swc_ast.specs.Operators.{int_eq, numeric_equal, prim, strict_equal};
+ghost use Rattle.swc_ast.specs.Operators.{int_eq, prim, strict_equal};
 ghost use Rattle.swc_ast.specs.Views.{expr_tree};
 ghost use Rattle.swc_utils.specs.Globals.{unresolved};
 ghost use Rattle.swc_utils.specs.Known.{number, text, truth};

@@ -1,15 +1,13 @@
 -- The `var` names of nodes and of lists, one by one.
-use Rattle.std.proofs.Common.{◌≡◌, ◌<◌, ◌≤◌, true, false, List, [], ◌∷◌, ◌++◌, length, refl, sym, ap, ◌∙◌, arith}
+use Rattle.std.proofs.Common.{◌≡◌, ◌<◌, List, [], ◌∷◌, ◌++◌, length, refl, sym, ap, ◌∙◌, arith}
 use Rattle.std.proofs.lemmas.List.{append_assoc, append-nil}
-use Rattle.std.specs.Prelude.{if◌then◌else◌}
 use Rattle.swc_ast.specs.Tree.{Name, Label, Tree, node, Forest, ε, ◌⊳◌, label_of, children_of}
-use Rattle.swc_ast.specs.Scope.{vars, vars_all, own_vars, holds_statements}
+use Rattle.swc_ast.specs.Scope.{vars, vars_all}
 use Rattle.std.specs.Borrow.{Bor}
 use Rattle.swc_ast.specs.Parts.{list_trees}
 use Rattle.swc_ast.specs.Views.{stmt_tree}
 use Rattle.swc_ast.specs.declared.names.Ident.{Ident}
 use Rattle.swc_ast.specs.declared.statements.Stmt.{Stmt}
-use Rattle.tree_visit.proofs.Caps.{forest_size}
 use Rattle.branch_vars.specs.Names.{names_of, opened_vars}
 
 by_parts : (t : Tree) → vars t ≡ opened_vars (label_of t) (children_of t)
@@ -19,26 +17,11 @@ by_parts (node l ss cs) = refl
 pub opened : (t : Tree) (l : Label) (cs : Forest) → label_of t ≡ l → children_of t ≡ cs → opened_vars l cs ≡ vars t
 opened t l cs labelled held = sym (by_parts t ∙ cc (labelled, held))
 
--- a node among whose children no statement stands
-pub stays_out : (l : Label) (cs : Forest) (xs new : List Name) → new ≡ xs ++ own_vars l → holds_statements l ≡ false → new ≡ xs ++ opened_vars l cs
-stays_out l cs xs new made is = made ∙ ap (λ ys. xs ++ ys) (sym (append-nil (own_vars l))) ∙ ap (λ b. xs ++ (own_vars l ++ (if b then vars_all cs else []))) (sym is)
-
--- the first child is still to be read
-pub starts : (l : Label) (cs : Forest) (xs new : List Name) → new ≡ xs ++ own_vars l → holds_statements l ≡ true → new ++ vars_all cs ≡ xs ++ opened_vars l cs
-starts l cs xs new made is = ap (λ ys. ys ++ vars_all cs) made ∙ append_assoc xs (own_vars l) (vars_all cs) ∙ ap (λ b. xs ++ (own_vars l ++ (if b then vars_all cs else []))) (sym is)
-
 -- a child was read
 pub goes_on : (t : Tree) (ts us : Forest) (xs new g : List Name) → us ≡ t ⊳ ts → new ≡ xs ++ vars t → xs ++ vars_all us ≡ g → new ++ vars_all ts ≡ g
 goes_on t ts us xs new g is read h = ap (λ ys. ys ++ vars_all ts) read ∙ append_assoc xs (vars t) (vars_all ts) ∙ sym (ap (λ vs. xs ++ vars_all vs) is) ∙ h
 
--- no child is left
-pub ends : (us : Forest) (xs g : List Name) → us ≡ ε → xs ++ vars_all us ≡ g → xs ≡ g
-ends us xs g is h = sym (append-nil xs) ∙ sym (ap (λ vs. xs ++ vars_all vs) is) ∙ h
-
 -- sizes
-
-pub child_smaller : (t : Tree) (us vs cs : Forest) → us ≡ t ⊳ vs → forest_size us ≤ forest_size cs → forest_size (children_of t) < forest_size cs
-child_smaller (node l ss ts) us vs cs is h = omega (arith, ap forest_size is, h)
 
 -- the names of one statement
 pub one_left : (t : Tree) (old : List (Bor Ident)) → old ≡ [] → names_of old ++ vars t ≡ vars_all (t ⊳ ε)

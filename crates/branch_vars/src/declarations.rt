@@ -1,5 +1,5 @@
 //! One `var` declaration of some names.
-ghost use Rattle.std.specs.Prelude.{◌≡◌, [], ◌∷◌, IfOk};
+ghost use Rattle.std.specs.Prelude.{◌≡◌, [], IfOk};
 ghost use Rattle.swc_ast.specs.Parts.{ident_name, list_trees};
 ghost use Rattle.swc_ast.specs.Statements.{declarator_tree};
 ghost use Rattle.swc_ast.specs.Tree.{ε, ◌⊳◌};

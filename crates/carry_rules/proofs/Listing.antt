@@ -155,9 +155,6 @@ module _ {p : Pass} {F : Facts} {E : Last} {lex : Name → Bool} (sure : Sure p 
     target_named : (x : Name) → E.settled y ≡ a_name x → N x ≡ true
     target_named x e = h.stands.ready x (first_ready p (leave p F (Declarator Var y) u (after_all p F (enter p F (Declarator Var y) ss cs u) cs)) ss cs x (unless_name _ (first_put p (leave p F (Declarator Var y) u (after_all p F (enter p F (Declarator Var y) ss cs u) cs)) ss cs) x (sym h.agree.0.1.0 ∙ e)).1)
 
-    settled_in : (x : Name) → same_name y x ≡ true → next.settled x ≡ true
-    settled_in x e = or_left (same_name y x) (G.settled x) e
-
     pub next_firm : Firm E (wide N next)
     next_firm = record {
       closed = h.firm.closed;

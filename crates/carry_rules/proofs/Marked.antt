@@ -1,8 +1,7 @@
 -- Facts of labels are the same of a tree with marks.
 use Rattle.std.proofs.Common.{◌≡◌, ◌+◌, Bool, refl, ap, ap₂}
-use Rattle.swc_ast.specs.Tree.{Name, Label, Tree, node, Forest, ε, ◌⊳◌}
+use Rattle.swc_ast.specs.Tree.{Label, Tree, node, Forest, ε, ◌⊳◌}
 use Rattle.carry_rules.specs.Carry.{Pass, Facts, one, how_many, how_many_in, Carried, enter, after, marks, marks_all}
-use Rattle.carry_rules.proofs.Sound.{every, every_all}
 
 module _ (p : Pass) (F : Facts) where
   mutual
@@ -13,13 +12,3 @@ module _ (p : Pass) (F : Facts) where
     pub many_all_marked : (q : Label → Bool) (s : Carried) (ts : Forest) → how_many_in (λ l cs. q l) (marks_all p F s ts) ≡ how_many_in (λ l cs. q l) ts
     many_all_marked q s ε = refl
     many_all_marked q s (t ⊳ ts) = ap₂ ◌+◌ (many_marked q s t) (many_all_marked q (after p F s t) ts)
-
-  module _ (lex : Name → Bool) where
-    mutual
-      -- each node sits
-      pub every_marked : (s : Carried) (t : Tree) → every F lex t → every F lex (marks p F s t)
-      every_marked s (node l ss cs) h = (h.0, every_all_marked (enter p F l ss cs s) cs h.1)
-
-      pub every_all_marked : (s : Carried) (ts : Forest) → every_all F lex ts → every_all F lex (marks_all p F s ts)
-      every_all_marked s ε h = h
-      every_all_marked s (t ⊳ ts) h = (every_marked s t h.0, every_all_marked (after p F s t) ts h.1)

@@ -45,11 +45,6 @@ put_is nothing r = refl
 put_is (a_name x) r = refl
 put_is (a_value v) r = refl
 
-pub is_nothing : (q : Put) → link_of q ≡ None → known_of q ≡ None → q ≡ nothing
-is_nothing nothing a b = refl
-is_nothing (a_name x) a b = absurd (cc)
-is_nothing (a_value v) a b = absurd (cc)
-
 pub linked : (q : Put) (x : Name) → link_of q ≡ Some x → q ≡ a_name x
 linked nothing x e = absurd (cc)
 linked (a_name y) x e = cc

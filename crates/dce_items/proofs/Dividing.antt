@@ -1,12 +1,9 @@
 -- Parts of an item.
-use Rattle.std.proofs.Common.{ℕ, ◌≡◌, Bool, true, false, not, ◌&&◌, if◌then◌else◌, List, Some, None, refl, sym, ap, ap₂, subst, ◌∙◌}
-use Rattle.std.specs.Borrow.{Bor}
+use Rattle.std.proofs.Common.{ℕ, ◌≡◌, Bool, true, false, not, List, None, refl, sym, ap, subst, ◌∙◌}
 use Rattle.std.proofs.lemmas.Bool.{false≢true}
 use Rattle.swc_ast.specs.declared.Span.{Span}
 use Rattle.swc_ast.specs.declared.VarDeclKind.{VarDeclKind}
-use Rattle.swc_ast.specs.declared.names.Ident.{Ident}
-use Rattle.swc_ast.specs.Parts.{ident_name}
-use Rattle.swc_ast.specs.Tree.{Name, Label, VarDecl, Declarator, FnDecl, Tree, node, Forest, ε, ◌⊳◌}
+use Rattle.swc_ast.specs.Tree.{Label, VarDecl, Declarator, FnDecl, Tree, node, Forest, ε, ◌⊳◌}
 use Rattle.static_proofs.specs.Names.{is_some_tree}
 use Rattle.swc_utils.specs.Pure.{pure}
 use Rattle.tree_visit.specs.declared.kind.Kind.{Kind}
@@ -14,7 +11,7 @@ use Rattle.tree_visit.specs.declared.kind.Kind.TheVariants as kind
 use Rattle.tree_visit.specs.declared.opened.Opened.{Opened}
 use Rattle.tree_visit.specs.Kinds.{kind_label}
 use Rattle.tree_visit.specs.Nodes.{children_forest}
-use Rattle.dce_layer_proofs.specs.Goers.{goers_among, is_pure_init, goes_with, inner_goers}
+use Rattle.dce_layer_proofs.specs.Goers.{is_pure_init, goes_with, inner_goers}
 use Rattle.dce_items.specs.declared.parts.Parts.{Parts}
 use Rattle.dce_items.specs.Gathered.{tight_inside, goers_inside, name_of, Divides, DividesAt}
 
@@ -40,20 +37,6 @@ pub record IsWhole (mark : ℕ) (l : Label) (cs : Forest) : Type 0 where
   pub name : goes_with mark l cs ≡ None
   pub goers : inner_goers mark l cs ≡ goers_inside l cs
 
-pub none_declared : (mark : ℕ) (k : VarDeclKind) → IsWhole mark (VarDecl k) ε
-none_declared mark k = record { name = refl; goers = refl }
-
-pub many_declared : (mark : ℕ) (k : VarDeclKind) (t : Tree) (ts : Forest) (e : Bool) → e ≡ not (is_some_tree ts) → e ≡ false → IsWhole mark (VarDecl k) (t ⊳ ts)
-many_declared mark k t ε e f some = absurd (false≢true (sym some ∙ f))
-many_declared mark k (node (Declarator j x) ss cs) (u ⊳ us) e f some = record { name = refl; goers = refl }
-many_declared mark k (node l ss cs) (u ⊳ us) e f some = record { name = refl; goers = refl }
-
-pub impure_declared : (mark : ℕ) (k j : VarDeclKind) (x : Name) (ss : List Span) (cs : Forest) → is_pure_init mark cs ≡ false → IsWhole mark (VarDecl k) (node (Declarator j x) ss cs ⊳ ε)
-impure_declared mark k j x ss cs h = record {
-  name = ap (λ b. if b then Some x else None) h;
-  goers = ap (λ b. if b then goers_among false cs else goers_among false (node (Declarator j x) ss cs ⊳ ε)) h;
-}
-
 -- other kinds
 
 pub other_declared : (mark : ℕ) (k : VarDeclKind) (m : Kind) (ss : List Span) (cs : Forest) → ((j : _) → (n : _) → m ≡ kind.Declarator j n → ⊥) → IsWhole mark (VarDecl k) (node (kind_label m) ss cs ⊳ ε)
@@ -74,47 +57,8 @@ module _ (mark : ℕ) (item : Opened) (p : Parts) where
     tight = λ e. subst (λ (o : Opened). tight_inside (kind_label o.kind) (children_forest o.children) ≡ true) is e;
   }
 
-  -- of a function
-  pub function_divides : (x : Bor Ident) → p.name ≡ Some x → p.inner ≡ item → kind_label item.kind ≡ FnDecl (ident_name x.now) → Divides mark (kind_label item.kind) (children_forest item.children) p
-  function_divides x n is h = record {
-    name = ap (λ (l : Label). goes_with mark l (children_forest item.children)) h ∙ sym (ap name_of n);
-    goers =
-        ap (λ (l : Label). inner_goers mark l (children_forest item.children)) h ∙ ap (λ (l : Label). goers_inside l (children_forest item.children)) (sym h)
-        ∙ ap (λ (o : Opened). goers_inside (kind_label o.kind) (children_forest o.children)) (sym is);
-    tight = λ e. subst (λ (o : Opened). tight_inside (kind_label o.kind) (children_forest o.children) ≡ true) is e;
-  }
-
   -- of a declaration of something that is no variable
   pub other_divides : (variable : Opened) → p.name ≡ None → p.inner ≡ item → ((j : _) → (n : _) → variable.kind ≡ kind.Declarator j n → ⊥) → DividesAt mark item variable p
   other_divides variable n is f k ss l c =
       let w = other_declared mark k variable.kind ss (children_forest variable.children) f in
       whole_divides n is (subst (λ (m : Label). IsWhole mark m (children_forest item.children)) (sym l) (subst (λ (cs : Forest). IsWhole mark (VarDecl k) cs) (sym c) w))
-
-  -- of a declaration of one variable
-  module _ (variable : Opened) (j : VarDeclKind) (x : Bor Ident) (b : Bool) (labelled : kind_label variable.kind ≡ Declarator j (ident_name x.now)) (found : b ≡ is_pure_init mark (children_forest variable.children)) where
-    abbrev ds : Forest
-    ds = children_forest variable.children
-
-    abbrev y : Name
-    y = ident_name x.now
-
-    -- with a first value that isn't pure
-    pub impure_divides : p.name ≡ None → p.inner ≡ item → b ≡ false → DividesAt mark item variable p
-    impure_divides n is h k ss l c =
-        let w = impure_declared mark k j y ss ds (sym found ∙ h) in
-        whole_divides n is (subst (λ (m : Label). IsWhole mark m (children_forest item.children)) (sym l) (subst (λ (cs : Forest). IsWhole mark (VarDecl k) cs) (sym c) (subst (λ (m : Label). IsWhole mark (VarDecl k) (node m ss ds ⊳ ε)) (sym labelled) w)))
-
-    -- with a pure one, or none
-    pub pure_divides : p.name ≡ Some x → p.inner ≡ variable → b ≡ true → DividesAt mark item variable p
-    pure_divides n is h k ss l c =
-        let e : is_pure_init mark ds ≡ true = sym found ∙ h in
-        let d : Tree = node (Declarator j y) ss ds in
-        let at : children_forest item.children ≡ d ⊳ ε = c ∙ ap (λ (m : Label). node m ss ds ⊳ ε) labelled in record {
-          name = ap₂ (λ (m : Label) (cs : Forest). goes_with mark m cs) l at ∙ ap (λ a. if a then Some y else None) e ∙ sym (ap name_of n);
-          goers =
-              ap₂ (λ (m : Label) (cs : Forest). inner_goers mark m cs) l at ∙ ap (λ a. if a then goers_among false ds else goers_among false (d ⊳ ε)) e ∙ ap (λ (m : Label). goers_inside m ds) (sym labelled)
-              ∙ ap (λ (o : Opened). goers_inside (kind_label o.kind) (children_forest o.children)) (sym is);
-          tight = λ g.
-              let f : tight_inside (Declarator j y) ds ≡ true = subst (λ (m : Label). tight_inside m ds ≡ true) labelled (subst (λ (o : Opened). tight_inside (kind_label o.kind) (children_forest o.children) ≡ true) is g) in
-              ap₂ (λ (m : Label) (cs : Forest). tight_inside m cs) l at ∙ ap (λ a. a && true) f;
-        }

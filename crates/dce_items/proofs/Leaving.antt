@@ -12,10 +12,10 @@ use Rattle.swc_ast.specs.declared.statements.Stmt.{Stmt}
 use Rattle.swc_ast.specs.Expressions as form
 use Rattle.swc_ast.specs.Expressions.{is_eval, fn_expr_tree, params_tree}
 use Rattle.swc_ast.specs.Parts.{list_trees, option_ident_name, option_ident_spans}
-use Rattle.swc_ast.specs.Tree.{Name, Label, Fn, Arrow, Read, Dot, Index, Call, CallEval, Body, ExprStmt, Tree, node, Forest, ε, ◌⊳◌}
+use Rattle.swc_ast.specs.Tree.{Name, Label, Fn, Arrow, Read, Dot, Index, Call, CallEval, Body, Tree, node, Forest, ε, ◌⊳◌}
 use Rattle.swc_ast.specs.Views.{arrow_tree, arrow_body_tree, expr_tree, function_trees, stmt_tree}
 use Rattle.swc_ast.proofs.Equations.{function_trees-is, arrow_tree-is}
-use Rattle.dce_layer_proofs.specs.Frames.{Wrapper, wrapped_function, wrapped_call, wrapped}
+use Rattle.dce_layer_proofs.specs.Frames.{Wrapper, wrapped_function, wrapped_call}
 use Rattle.dce_layer_proofs.specs.Layers.{items, live}
 use Rattle.dce_items.specs.declared.inside.Inside.{Inside}
 use Rattle.dce_items.specs.Described.{layered}
@@ -141,6 +141,3 @@ of_call g s r t u args brgs spanned same h = λ w ts e k.
     let c = called_back s t args w ts e in
     let vs = live (g.rounds + 1) (layered ts g.layers.items) in
     ap₂ (λ (p : Span) (us : Forest). form.call_node p u us) spanned (same ∙ c.none) ∙ ap (λ v. form.call_node s v ε) (h w ts c.callee k) ∙ called_node w s vs ∙ ap (λ ss. node Call ss (wrapped_function w vs ⊳ ε)) c.spanned
-
-pub of_statement : (g : Inside) (s r : Span) (t u : Tree) → r ≡ s → RemainsIn wrapped_call g t u → RemainsIn wrapped g (node ExprStmt (s ∷ []) (t ⊳ ε)) (node ExprStmt (r ∷ []) (u ⊳ ε))
-of_statement g s r t u spanned h = λ w ts e k. ap₂ (λ ss v. node ExprStmt ss (v ⊳ ε)) (ap (λ p. p ∷ []) spanned ∙ ap spans e) (h w ts (ap first e) k)

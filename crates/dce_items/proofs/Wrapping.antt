@@ -26,10 +26,6 @@ use Rattle.dce_rules.specs.Uses.{is_eval, any_eval}
 use Rattle.dce_layer_proofs.specs.Frames.{Wrapper, function_label, wrapped_parts, wrapped_function, wrapped_call, wrapped}
 use Rattle.dce_items.specs.Wrapped.{Wraps, WrapperAt}
 
--- the same of a tree that is another
-pub wraps_as : (f : Wrapper → Forest → Tree) (t u : Tree) (ts : Forest) → t ≡ u → Wraps f u ts → Wraps f t ts
-wraps_as f t u ts is h = record { parts = h.parts; is = is ∙ h.is }
-
 -- a list that is said to be empty is
 pub empty : {X : Type 0} (b : Bool) (n : ℕ) (xs : List X) → b ≡ true → b ≡ (n == 0) → n ≡ length xs → xs ≡ []
 empty b n [] h is len = refl

@@ -1,5 +1,5 @@
 //! The walk that finds names that are declared in an item.
-ghost use Rattle.std.specs.Prelude.{◌≡◌, IfOk};
+ghost use Rattle.std.specs.Prelude.{IfOk};
 ghost use Rattle.tree_visit.specs.Kinds.{kind_label};
 ghost use Rattle.tree_visit.specs.Nodes.{children_forest};
 ghost use Rattle.dce_layer_proofs.specs.Goers.{goers_among, tight_among};

@@ -1,5 +1,5 @@
 //! What is known of names while an item is walked.
-ghost use Rattle.std.specs.Prelude.{◌≡◌, ◌||◌, IfOk, IfSome, OnOk, IsTrue, true, ℕ};
+ghost use Rattle.std.specs.Prelude.{◌≡◌, ◌||◌, IfOk, IfSome, OnOk, true, ℕ};
 ghost use Rattle.swc_ast.specs.Parts.{ident_name};
 ghost use Rattle.swc_ast.specs.Run.{has_text};
 ghost use Rattle.swc_names.specs.Ids.{optional};

@@ -1,18 +1,14 @@
 -- What items keep by themselves, a module of them keeps.
 use Rattle.std.proofs.Common.{◌≡◌, Bool, true, false, not, ◌||◌, List, [], ◌∷◌, ◌++◌, refl, sym, ap, ap₂, ◌∙◌}
-use Rattle.swc_ast.specs.declared.Span.{Span}
 use Rattle.swc_ast.specs.Reach.{named_outside, outside_in, is_exported}
-use Rattle.swc_ast.specs.Run.{has_text, item_exports, exported}
-use Rattle.swc_ast.specs.Tree.{Text, Name, same_name, Module, Tree, node, Forest, ε, ◌⊳◌}
-use Rattle.dce_rules.specs.Uses.{is_argument, argument_among, seen_by_eval, eval_among, free_to_go}
+use Rattle.swc_ast.specs.Run.{item_exports, exported}
+use Rattle.swc_ast.specs.Tree.{Text, Name, same_name, Tree, node, Forest, ε, ◌⊳◌}
+use Rattle.dce_rules.specs.Uses.{is_argument, argument_among, seen_by_eval, eval_among}
 use Rattle.dce_layer_proofs.specs.Layers.{notes}
 
 -- whether items keep a name
 abbrev pub keeps : Name → Forest → Bool
 keeps x ts = outside_in x ts || (is_exported x (exported ts) || (argument_among x ts || eval_among x ts))
-
-pub free_by : (retained : List Text) (ss : List Span) (ts : Forest) (x : Name) → free_to_go retained (node Module ss ts) x ≡ not (has_text x.text retained || keeps x ts)
-free_by retained ss ts x = refl
 
 not_not : (b : Bool) → not (not b) ≡ b
 not_not true = refl

@@ -1,12 +1,12 @@
 -- Where nothing plain is left that is free to go, what is declared plainly is exported, retained or named.
 use Rattle.std.proofs.Common.{◌≡◌, Bool, true, false, not, ◌&&◌, ◌||◌, List, ◌∷◌, refl, sym, ap, subst, ◌∙◌, if◌then◌else◌}
-use Rattle.std.proofs.lemmas.Bool.{true≢false, false≢true, or_parts, or_left, or_right, and_left, and_right, or_from}
+use Rattle.std.proofs.lemmas.Bool.{true≢false, or_parts, and_left, and_right, or_from}
 use Rattle.swc_ast.specs.declared.Span.{Span}
 use Rattle.swc_ast.specs.Tree.{Text, Name, Label, Tree, node, Forest, ε, ◌⊳◌}
 use Rattle.swc_ast.specs.Scope.{is_function, has_name, param_names}
 use Rattle.swc_ast.specs.Run.{has_text}
 use Rattle.swc_ast.specs.Resolved.{params_of}
-use Rattle.swc_ast.specs.Reach.{named_by, occurs, occurs_in, declares, named_outside, outside_in, is_closed, is_for}
+use Rattle.swc_ast.specs.Reach.{named_by, occurs, declares, named_outside, is_closed, is_for}
 use Rattle.dce_rules.specs.Uses.{has_arguments, is_arguments, names_arguments, any_arguments, is_argument, argument_among, is_eval, calls_eval, any_eval, declared_among, seen_by_eval, eval_among, is_export_of, free_to_go}
 use Rattle.dce_rules.specs.Left.{declared_plainly, any_of, is_head, left_in, left_among, Entered, itself, further, EnteredAmong, in_first, in_rest, speaks_of_arguments, arguments_among, is_kept}
 
@@ -95,20 +95,3 @@ module _ (retained : List Text) (t : Tree) (e : calls_eval t ≡ false) (a : spe
   left_kept F all h {l} {ss} {cs} i x xs q = not_free x (none_of (free_to_go retained t x) (all x) (or_parts (F x) (any_of F xs) (sym (ap (any_of F) q) ∙ entered_none F (node l ss cs) i h)).0)
 
 -- what is named outside functions of its name occurs
-
-occurs_from : (b n o c : Bool) → (o ≡ true → c ≡ true) → (if b then false else (n || o)) ≡ true → (n || c) ≡ true
-occurs_from true n o c h e = absurd (false≢true e)
-occurs_from false true o c h e = refl
-occurs_from false false o c h e = h e
-
-either : (a b c d : Bool) → (a ≡ true → c ≡ true) → (b ≡ true → d ≡ true) → (a || b) ≡ true → (c || d) ≡ true
-either true b c d h g e = or_left c d (h refl)
-either false b c d h g e = or_right c d (g e)
-
-mutual
-  pub named_occurs : (x : Name) (t : Tree) → named_outside x t ≡ true → occurs x t ≡ true
-  named_occurs x (node l ss cs) e = occurs_from (declares x l) (has_name x (named_by l)) (outside_in x cs) (occurs_in x cs) (named_occurs_in x cs) e
-
-  named_occurs_in : (x : Name) (ts : Forest) → outside_in x ts ≡ true → occurs_in x ts ≡ true
-  named_occurs_in x ε e = e
-  named_occurs_in x (t ⊳ ts) e = either (named_outside x t) (outside_in x ts) (occurs x t) (occurs_in x ts) (named_occurs x t) (named_occurs_in x ts) e

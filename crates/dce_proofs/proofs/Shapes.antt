@@ -5,7 +5,7 @@ use Rattle.swc_ast.specs.declared.Span.{Span}
 use Rattle.swc_ast.specs.declared.AssignOp.TheVariants.{Assign as Plain}
 use Rattle.swc_ast.specs.declared.VarDeclKind.{VarDeclKind}
 use Rattle.swc_ast.specs.declared.VarDeclKind.TheVariants.{Var, Let, Const}
-use Rattle.swc_ast.specs.Tree.{Label, Fn, Arrow, Method, FnDecl, ExportDecl, ExportDefaultFn, ExportDefaultExpr, Import, ImportNamed, ImportDefault, ImportStar, If, While, DoWhile, For, Labeled, Try, Params, Body, Param, Block, Switch, CaseBody, VarDecl, Declarator, Module, Script, Assign, Call, Seq, Object, Return, Empty, ExprStmt, Tree, node, Forest, ε, ◌⊳◌, label_of}
+use Rattle.swc_ast.specs.Tree.{Label, Fn, Arrow, Method, FnDecl, ExportDecl, ExportDefaultFn, ExportDefaultExpr, Import, If, While, DoWhile, For, Labeled, Try, Params, Body, Param, Block, Switch, CaseBody, VarDecl, Declarator, Module, Script, Assign, Call, Seq, Object, Return, Empty, ExprStmt, Tree, node, Forest, ε, ◌⊳◌, label_of}
 use Rattle.swc_ast.specs.Labels.{is_declaration, is_params, is_body, is_param, is_block, is_whole}
 use Rattle.static_proofs.specs.Shaped.{is_inner, is_holder, is_statement, is_whole_item, is_block_or_inner, is_case_or_inner, is_head, is_body_or_inner, is_declarator_of, is_specifier, are_loop_parts, are_parts, are_method_parts, labels_of, all_labels, holds, is_shaped, are_shaped}
 use Rattle.walk_proofs.specs.Meant.{Sifts}
@@ -24,10 +24,6 @@ may_change l = is_inner l
 data Becomes (l : Label) : Label → Type 0 where
   stays : Becomes l l
   shows_none : (m : Label) → may_change l ≡ true → is_inner m ≡ true → Becomes l m
-
-inner_may : (l : Label) → is_inner l ≡ true → may_change l ≡ true
-inner_may (VarDecl k) e = refl
-inner_may l e = e
 
 then_becomes : {l m n : Label} → Becomes l m → Becomes m n → Becomes l n
 then_becomes stays c = c
@@ -92,12 +88,6 @@ narrow_body l i e = false≢true e
 narrow_param : Narrow is_param
 narrow_param (Param x) i e = false≢true i
 narrow_param l i e = false≢true e
-
-narrow_specifier : Narrow is_specifier
-narrow_specifier (ImportNamed x o) i e = false≢true i
-narrow_specifier (ImportDefault x) i e = false≢true i
-narrow_specifier (ImportStar x) i e = false≢true i
-narrow_specifier l i e = false≢true e
 
 narrow_declarator : (k : VarDeclKind) → Narrow (is_declarator_of k)
 narrow_declarator k (Declarator j x) i e = false≢true i

@@ -2,7 +2,7 @@
 use Rattle.std.proofs.Common.{◌≡◌, ℕ, Bool, true, false, ◌||◌, List, [], ◌∷◌, ◌++◌, map, Option, Some, None, refl, sym, ap, subst, ◌∙◌}
 use Rattle.std.proofs.lemmas.Bool.{false≢true}
 use Rattle.swc_ast.specs.Tree as tree
-use Rattle.swc_ast.specs.Tree.{ItemKind, Spread, Tree, node, Forest, ε, ◌⊳◌}
+use Rattle.swc_ast.specs.Tree.{ItemKind, Tree, node, Forest, ε, ◌⊳◌}
 use Rattle.swc_ast.specs.Scope.{joined}
 use Rattle.std.specs.declared.alloc.Global.{Global}
 use Rattle.std.specs.declared.vec.Vec.{Vec}
@@ -63,20 +63,6 @@ filled_trees_cons w (Some n) xs = by n.spread
     by None = refl
     by (Some s) = refl
 
-pub some_filled_kind : (n : ExprOrSpread Expr) → item_kind (Some n) ∷ [] ≡ filled_kinds (item_kind (Some n) ∷ [])
-some_filled_kind n = by n.spread
-  where
-    by : (o : Option Span) → spread_kind o ∷ [] ≡ filled_kinds (spread_kind o ∷ [])
-    by None = refl
-    by (Some s) = refl
-
-pub some_filled_tree : (w : Tree) (n : ExprOrSpread Expr) → trees_of (Some n ∷ []) ≡ filled_items w (item_kind (Some n) ∷ []) (trees_of (Some n ∷ []))
-some_filled_tree w n = by n.spread
-  where
-    by : (o : Option Span) → expr_tree n.expr.value ⊳ ε ≡ filled_items w (spread_kind o ∷ []) (expr_tree n.expr.value ⊳ ε)
-    by None = refl
-    by (Some s) = refl
-
 -- spreads opened
 
 pub opened_kinds_cons : (x : Item) (xs : List Item) → opened_kinds (kinds_of (x ∷ xs)) (trees_of (x ∷ xs)) ≡ opened_kinds (kinds_of (x ∷ [])) (trees_of (x ∷ [])) ++ opened_kinds (kinds_of xs) (trees_of xs)
@@ -99,21 +85,9 @@ left_false : (a b : Bool) → (a || b) ≡ false → a ≡ false
 left_false true b h = h
 left_false false b h = refl
 
-no_spread_kinds : (t : Tree) → is_array t ≡ false → spread_kinds t ≡ Spread ∷ []
-no_spread_kinds (node (tree.Array ks) ss us) h = absurd (false≢true (sym h))
-no_spread_kinds (node l ss us) h = refl
-
 no_spread_trees : (w t : Tree) → is_array t ≡ false → spread_trees w t ≡ t ⊳ ε
 no_spread_trees w (node (tree.Array ks) ss us) h = absurd (false≢true (sym h))
 no_spread_trees w (node l ss us) h = refl
-
-pub closed_kind : (x : Item) → spreads_array (kinds_of (x ∷ [])) (trees_of (x ∷ [])) ≡ false → opened_kinds (kinds_of (x ∷ [])) (trees_of (x ∷ [])) ≡ kinds_of (x ∷ [])
-closed_kind None h = refl
-closed_kind (Some n) h = by n.spread (expr_tree n.expr.value) h
-  where
-    by : (o : Option Span) (t : Tree) → spreads_array (spread_kind o ∷ []) (t ⊳ ε) ≡ false → opened_kinds (spread_kind o ∷ []) (t ⊳ ε) ≡ spread_kind o ∷ []
-    by None t h = refl
-    by (Some s) t h = none_behind (spread_kinds t) ∙ no_spread_kinds t (left_false (is_array t) false h)
 
 pub closed_tree : (w : Tree) (x : Item) → spreads_array (kinds_of (x ∷ [])) (trees_of (x ∷ [])) ≡ false → opened_items w (kinds_of (x ∷ [])) (trees_of (x ∷ [])) ≡ trees_of (x ∷ [])
 closed_tree w None h = refl
@@ -128,13 +102,6 @@ left_true true h = refl
 left_true false h = h
 
 -- an item that spreads an array literal of some items
-
-pub spread_open : (n : ExprOrSpread Expr) (xs : List Item) → spreads_array (kinds_of (Some n ∷ [])) (trees_of (Some n ∷ [])) ≡ true → (is_array (expr_tree n.expr.value) ≡ true → HasItems (expr_tree n.expr.value) xs) → opened_kinds (kinds_of (Some n ∷ [])) (trees_of (Some n ∷ [])) ≡ filled_kinds (kinds_of xs)
-spread_open n xs h items = by n.spread (expr_tree n.expr.value) h items
-  where
-    by : (o : Option Span) (t : Tree) → spreads_array (spread_kind o ∷ []) (t ⊳ ε) ≡ true → (is_array t ≡ true → HasItems t xs) → opened_kinds (spread_kind o ∷ []) (t ⊳ ε) ≡ filled_kinds (kinds_of xs)
-    by None t h items = absurd (false≢true h)
-    by (Some s) t h items = none_behind (spread_kinds t) ∙ ap spread_kinds (items (left_true (is_array t) h)).1
 
 pub spread_open_trees : (w : Tree) (n : ExprOrSpread Expr) (xs : List Item) → spreads_array (kinds_of (Some n ∷ [])) (trees_of (Some n ∷ [])) ≡ true → (is_array (expr_tree n.expr.value) ≡ true → HasItems (expr_tree n.expr.value) xs) → opened_items w (kinds_of (Some n ∷ [])) (trees_of (Some n ∷ [])) ≡ filled_items w (kinds_of xs) (trees_of xs)
 spread_open_trees w n xs h items = by n.spread (expr_tree n.expr.value) h items

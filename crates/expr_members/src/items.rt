@@ -1,9 +1,7 @@
 //! Members of array literals. ECMA-262, 10.4.2.
 ghost use Rattle.std.specs.Prelude.{◌≡◌, ◌<◌, false, true, Some, [], ◌∷◌, map, length, take, slice_index_or, IfOk, IfSome, MatchOption};
-ghost use Rattle.swc_ast.specs.Parts.{list_trees};
 ghost use Rattle.swc_ast.specs.Expressions.{array_tree, item_kind, item_trees};
 ghost use Rattle.swc_ast.specs.Views.{expr_tree};
-ghost use Rattle.swc_utils.specs.Effects.{effects_all, preserve};
 ghost use Rattle.swc_utils.specs.Globals.{unresolved};
 ghost use Rattle.swc_utils.specs.Pure.{has_spread as kinds_have_spread, pure_all};
 ghost use Rattle.pass_rules.specs.Leaves.{void_tree};

@@ -1,10 +1,9 @@
 //! Members of literals. ECMA-262, 13.3.2.
-ghost use Rattle.std.specs.Prelude.{◌≡◌, ℕ, IfOk, IfErr, IfSome, MatchOption};
+ghost use Rattle.std.specs.Prelude.{◌≡◌, ℕ, IfOk, IfSome, MatchOption};
 ghost use Rattle.swc_ast.specs.Expressions.{member_tree};
 ghost use Rattle.swc_ast.specs.Parts.{lit_tree};
 ghost use Rattle.swc_ast.specs.Redex.{is_text as tree_is_text};
 ghost use Rattle.swc_ast.specs.Views.{expr_tree};
-ghost use Rattle.swc_ast.specs.declared.errors.PassError.TheVariants.{OutOfMemory};
 ghost use Rattle.swc_utils.specs.Globals.{unresolved};
 ghost use Rattle.expr_rules.specs.Replaced.{Replaced};
 ghost use Rattle.expr_members.specs.Members.{StandsFor};

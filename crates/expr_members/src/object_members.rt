@@ -1,5 +1,5 @@
 //! Members of object literals. ECMA-262, 13.2.5 and 10.1.8.
-ghost use Rattle.std.specs.Prelude.{◌≡◌, ◌&&◌, ◌<◌, ℕ, List, not, true, Some, length, IfOk, IfSome, MatchOption};
+ghost use Rattle.std.specs.Prelude.{◌≡◌, ◌&&◌, ◌<◌, not, true, Some, IfOk, IfSome, MatchOption};
 ghost use Rattle.swc_ast.specs.Expressions.{key_tree};
 ghost use Rattle.swc_ast.specs.Parts.{list_trees};
 ghost use Rattle.swc_ast.specs.Tree.{Tree, ε, ◌⊳◌};

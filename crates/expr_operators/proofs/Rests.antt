@@ -4,7 +4,7 @@ use Rattle.std.proofs.lemmas.Bool.{or_from}
 use Rattle.swc_ast.specs.Tree as tree
 use Rattle.swc_ast.specs.Tree.{Tree, node, Forest}
 use Rattle.swc_ast.specs.Operators.{Numeric, NotANumber, Whole, greatest, core_number, nonzero_sign, is_negative, is_odd, xor, quotient, remainder, power, power_of, number_value, binary_prim, binary_value}
-use Rattle.swc_ast.specs.Redex.{is_number, is_simple_literal, folds_numbers, divides_by_zero, admitted, number_of, number_redex, binary_redex}
+use Rattle.swc_ast.specs.Redex.{is_number, folds_numbers, divides_by_zero, admitted, number_of, number_redex, binary_redex}
 use Rattle.swc_ast.specs.Value.{Value, Num}
 use Rattle.swc_ast.specs.declared.Span.{Span}
 use Rattle.swc_ast.specs.declared.BinaryOp.{BinaryOp}
@@ -14,7 +14,6 @@ use Rattle.swc_utils.specs.Types.{is_numeric_op}
 use Rattle.expr_rules.specs.Arithmetic.{admits, as_numeric, divides, fold_numbers, fold_sum, fold_texts, is_zero}
 use Rattle.expr_rules.specs.Comparisons.{is_comparison}
 use Rattle.expr_rules.specs.Equality.{equal_known, is_equality}
-use Rattle.expr_rules.specs.Choices.{is_logical}
 use Rattle.expr_operators.specs.Literals.{literal_number}
 
 -- a value that is a number or NaN, or none
@@ -79,11 +78,6 @@ and_last false b h = refl
 and_within : (a b c : Bool) → (b && c) ≡ false → ((a && b) && c) ≡ false
 and_within true b c h = h
 and_within false b c h = refl
-
-no_folds : (a b c d : Bool) → ((((a && b) && false) && c) && d) ≡ false
-no_folds true true c d = refl
-no_folds true false c d = refl
-no_folds false b c d = refl
 
 as_number : (k : Numeric) → as_numeric (number_value k) ≡ Some k
 as_number NotANumber = refl
@@ -190,11 +184,6 @@ equal_rests o a b n h = cc
 pub equality_rests : (mark : ℕ) (o : BinaryOp) (a b : Tree) → is_equality o ≡ true → equal_known mark o a b ≡ None → binary_redex o a b ≡ false
 equality_rests mark o a b n h = equal_rests o a b n (numbers_unequal mark o a b n h)
 
-pub logical_rests : (o : BinaryOp) (a b : Tree) → is_logical o ≡ true → is_simple_literal a ≡ false → binary_redex o a b ≡ false
-logical_rests op.LogicalAnd a b n h = or_from (number_redex op.LogicalAnd a b) _ (no_folds (is_number a) (is_number b) _ _) h
-logical_rests op.LogicalOr a b n h = or_from (number_redex op.LogicalOr a b) _ (no_folds (is_number a) (is_number b) _ _) h
-logical_rests o a b n h = cc
-
 -- `+`
 sums_rest : (mark : ℕ) (a b : Tree) → fold_texts mark a b ≡ None → ((r : Numeric) → fold_sum mark a b ≡ Some r → admits op.Add a b r ≡ false) → binary_redex op.Add a b ≡ false
 unfolding binary_prim
@@ -212,11 +201,3 @@ sum_long_rests mark a b k h e m = sums_rest mark a b h (λ r i. ap (admits op.Ad
   where
     same : {r : Numeric} → Some r ≡ Some k → r ≡ k
     same i = cc
-
--- the others
-pub other_rests : (o : BinaryOp) (a b : Tree) → is_logical o ≡ false → is_comparison o ≡ false → is_equality o ≡ false → is_numeric_op o ≡ false → (o ≡ op.Add → ⊥) → binary_redex o a b ≡ false
-other_rests op.In a b l c e n h = or_from (number_redex op.In a b) _ (no_folds (is_number a) (is_number b) _ _) refl
-other_rests op.InstanceOf a b l c e n h = or_from (number_redex op.InstanceOf a b) _ (no_folds (is_number a) (is_number b) _ _) refl
-other_rests op.NullishCoalescing a b l c e n h = or_from (number_redex op.NullishCoalescing a b) _ (no_folds (is_number a) (is_number b) _ _) refl
-other_rests op.Add a b l c e n h = absurd (h refl)
-other_rests o a b l c e n h = cc

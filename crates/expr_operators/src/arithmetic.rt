@@ -1,6 +1,6 @@
 //! Operators on numbers, with the results that the language gives exactly: a double holds each whole number of at most
 //! 2^53 - 1 in size, and -0 is none of them. NaN is None. ECMA-262, section 6.1.6.1.
-ghost use Rattle.std.specs.Prelude.{◌≡◌, ◌<◌, ◌^◌, Some, SomeIff, ◌+ℤ◌, ◌-ℤ◌};
+ghost use Rattle.std.specs.Prelude.{◌≡◌, ◌<◌, ◌^◌, Some, SomeIff, ◌-ℤ◌};
 ghost use Rattle.swc_ast.specs.Operators as operators;
 ghost use Rattle.swc_ast.specs.Operators.{arith, core_number, nonzero_sign, times, quotient, remainder, power_of, xor};
 ghost use Rattle.swc_utils.specs.Known.{minus, of_value};

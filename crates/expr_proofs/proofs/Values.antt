@@ -3,8 +3,7 @@ use Rattle.std.proofs.Common.{◌≡◌, ℕ, true, List, Option, Some, None, re
 use Rattle.std.proofs.lemmas.Bool.{false≢true}
 use Rattle.std.proofs.lemmas.Option.{none-some, same_Some}
 use Rattle.swc_ast.specs.declared.Span.{Span}
-use Rattle.swc_ast.specs.declared.UnaryOp.{UnaryOp}
-use Rattle.swc_ast.specs.declared.UnaryOp.TheVariants.{TypeOf, Delete}
+use Rattle.swc_ast.specs.declared.UnaryOp.TheVariants.{TypeOf}
 use Rattle.swc_ast.specs.declared.BinaryOp.{BinaryOp}
 use Rattle.swc_ast.specs.declared.BinaryOp.TheVariants.{LogicalOr, LogicalAnd, In, InstanceOf, NullishCoalescing}
 use Rattle.swc_ast.specs.Tree.{Array, Object, Fn, Arrow, Unary, Binary, Tree, node, ε, ◌⊳◌}
@@ -15,7 +14,7 @@ use Rattle.swc_ast.specs.Call.{call_at}
 use Rattle.meaning_proofs.specs.Exact.{Refines, Exact}
 use Rattle.swc_utils.specs.Effects.{is_strict, has_no_meaning, effects, effects_all, preserve}
 use Rattle.swc_utils.specs.Holds.{Is, Yields}
-use Rattle.swc_utils.proofs.Ends.{yields_then, yields_gives, yields_leaves, yields_map, yields_in_core, any}
+use Rattle.swc_utils.proofs.Ends.{yields_then, yields_gives, yields_map, yields_in_core, any}
 use Rattle.swc_utils.proofs.Refines.{refines_same, refines_then, refines_trans, refines_chain, refines_leaves}
 use Rattle.swc_utils.proofs.RunEffects.{all_kept}
 use Rattle.swc_utils.proofs.Preserved.{preserve_kept}
@@ -47,11 +46,6 @@ unfolding eval act
 known_binary_exact mark op ss rs a b u v w x k ha hb h hu = constant_exact mark rs (node (Binary op) ss (a ⊳ b ⊳ ε)) u x
     (λ n call c. yields_then (value_holds mark n call a v c ha) (λ i ei. subst (Yields (Is x)) (sym (operate_strict op i (eval mark n call b c) k)) (yields_then (value_holds mark n call b w c hb) (λ j ej. core_gives _ x (ap₂ (binary_value op) ei ej ∙ h)))))
     hu
-
-unary_known : (mark n : ℕ) (call : Caller) (op : UnaryOp) (ss : List Span) (a : Tree) (v x : Value) (c : Context) → value_of mark a ≡ Some v → unary_value op v ≡ Some x → Yields (Is x) (eval mark n call (node (Unary op) ss (a ⊳ ε)) c)
-unfolding eval act
-unary_known mark n call Delete ss a v x c ha h = yields_leaves
-unary_known mark n call op ss a v x c ha h = yields_then (value_holds mark n call a v c ha) (λ i ei. core_gives _ x (ap (unary_value op) ei ∙ h))
 
 -- `typeof`
 

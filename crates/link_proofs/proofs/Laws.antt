@@ -11,11 +11,10 @@ use Rattle.swc_ast.specs.Run.{Same}
 use Rattle.meaning_proofs.specs.Names.{Names}
 use Rattle.meaning_proofs.specs.Exact.{run_at, Trimmed, left_core, Trims}
 use Rattle.meaning_proofs.specs.Sameness.{ignoring, SameIn}
-use Rattle.meaning_proofs.specs.Roles.{Unfolds, Fits}
+use Rattle.meaning_proofs.specs.Roles.{Unfolds}
 use Rattle.meaning_proofs.specs.Rewrites.{Related}
 use Rattle.link_proofs.specs.Links.{Links, Ground, settled_here, Proper, Put, nothing, a_name, a_value, PutTree, put_number, put_text, put_truth, put_null, put_void, reads, ReadsNone, put_at, through, linked_act, linked_eval, linked_evals, GoodWhole}
 use Rattle.meaning_proofs.proofs.Laws.{trimmed_itself}
-use Rattle.meaning_proofs.proofs.Quiet.{fits_nothing}
 use Rattle.meaning_proofs.proofs.Endings.{as_counted}
 use Rattle.meaning_proofs.proofs.Runs.{same_in}
 use Rattle.link_proofs.proofs.Fors.{bound_read}
@@ -51,12 +50,6 @@ module _ (L : Links) (mark : ℕ) where
   pub linked_unfolds : (t : Tree) → ReadsNone L (reads (label_of t)) (spans_of t) → Unfolds mark (linked_eval L mark) t
   unfolding linked_eval
   linked_unfolds (node l ss cs) q = record { by = λ n call. ap (linked_act L mark n call l ss cs) (linked_evals_are L mark n call cs) ∙ act_is n call l ss cs (each_of (linked_eval L mark n call) cs) q }
-
-some_same : {A : Type 0} {a b : A} → Some a ≡ Some b → a ≡ b
-some_same e = cc
-
-none_is_some : {A : Type 0} {a : A} → None ≡ Some a → ⊥
-none_is_some e = cc
 
 -- what is put for names stands for none itself
 pub record Ends (L : Links) (x : Name) : Type 0 where
@@ -158,15 +151,6 @@ module _ (L : Links) (mark : ℕ) where
   short_is n call y x rs us vs l = ap {B = Meaning} (λ (m : Meaning) (c : Context). m c >>= λ u. one_field y.text u) (through_none mark x (put_at L x vs) (read mark x) (λ z. read mark z) (λ v. gives v) (puts_none L x vs l.unlinked l.unknown l.unsettled))
 
 module _ {L : Links} {mark : ℕ} (P : Proper L mark) {N : Names} where
-  -- what goes on behind such a read
-  read_then : (y : Name) (c : Context) (s : State) → is_unresolved mark y ≡ false → (o : Outcome Value) → Trimmed N (and_then (read mark y c s) (λ v t. o)) o
-  unfolding and_then
-  read_then y c s u o = subst (λ (p : Outcome Value). Trimmed N (and_then p (λ v t. o)) o) (sym (bound_read mark y c s u)) (go (just_reads y (c.env y) s))
-    where
-      go : {p : Outcome Value} → JustReads s p → Trimmed N (and_then p (λ v t. o)) o
-      go (gave v) = trimmed_itself o
-      go left = left_core o
-
   -- the same, where what goes on begins in the state behind the read
   read_step : (y : Name) (c : Context) (s : State) → is_unresolved mark y ≡ false → (m : Run Value) → Trimmed N (and_then (read mark y c s) (λ v. m)) (m s)
   unfolding and_then
@@ -220,9 +204,6 @@ module _ {L : Links} {mark : ℕ} (P : Proper L mark) {N : Names} where
         subst (λ (m : Meaning). Trimmed N (m c s) (run_at (linked_eval L mark) n d (node KeyValue rs (node (PlainKey (NameKey y.text)) us ε ⊳ t ⊳ ε)) c s)) (sym (value_short_is L mark n _ y u ss e))
         (subst (λ (o : Outcome Value). Trimmed N ((read mark y c >>= λ v. one_field y.text u) s) o) (sym (short_gives L mark n _ y rs us i c s)) (read_step y c s (value_bound P y ss u e) (one_field y.text u)));
   }
-
-  pub link_fits : (y x : Name) (ss rs : List Span) → Fits N (node (Read y) ss ε) (node (Read x) rs ε)
-  link_fits y x ss rs = fits_nothing (node (Read y) ss ε) (node (Read x) rs ε) refl refl
 
 module _ {L : Links} {mark : ℕ} (P : Proper L mark) {N : Names} where
   -- Modules and scripts, rewritten with names put for names, do the same.

@@ -12,7 +12,6 @@ pub mod Laws
 pub mod Puts
 pub mod Example
 pub mod Settles
-pub mod Variable
 pub mod Copies
 pub mod Chains
 pub mod Exports

@@ -1,5 +1,5 @@
 -- The parts that the meanings of nodes are made of, in a run in which names stand for names.
-use Rattle.std.proofs.Common.{◌≡◌, ℕ, zero, suc, pos, Bool, true, false, ◌&&◌, List, [], ◌∷◌, ◌++◌, Option, Some, None, cond, bytes_eq, codes}
+use Rattle.std.proofs.Common.{ℕ, zero, suc, pos, Bool, true, false, ◌&&◌, List, [], ◌∷◌, ◌++◌, Option, Some, None, cond, bytes_eq, codes}
 use Rattle.swc_ast.specs.Tree.{Name, ItemKind, Plain, Spread, Hole}
 use Rattle.swc_ast.specs.declared.UpdateOp.{UpdateOp}
 use Rattle.swc_ast.specs.declared.BinaryOp.{BinaryOp}
@@ -33,9 +33,6 @@ FineIn L w (Some v) = Fine L w v
 pub data_in : (L : Links) (w : World) (o : Option Value) → DataIn o → FineIn L w o
 data_in L w None h = tt
 data_in L w (Some v) h = data_fine L w v h
-
-some_value : {v u : Value} → Some v ≡ Some u → v ≡ u
-some_value e = cc
 
 -- members
 

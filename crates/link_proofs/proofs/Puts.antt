@@ -1,5 +1,5 @@
 -- Modules in which names were put for names at some reads do the same.
-use Rattle.std.proofs.Common.{◌≡◌, ℕ, Bool, true, false, ◌++◌, List, [], Some, None, refl, sym, ap, ap₂, ◌∙◌}
+use Rattle.std.proofs.Common.{◌≡◌, ℕ, Bool, true, false, ◌++◌, List, [], refl, sym, ap, ap₂, ◌∙◌}
 use Rattle.std.proofs.lemmas.Bool.{false≢true}
 use Rattle.swc_ast.specs.declared.Span.{Span}
 use Rattle.swc_ast.specs.Tree.{Name, Label, NumLit, StrLit, BoolLit, NullLit, Unary, Read, TypeOfName, Shorthand, KeyValue, PlainKey, NameKey, Block, Body, CaseBody, VarDecl, FnDecl, Import, ExportDecl, ExportNamed, Module, Script, Tree, node, Forest, ε, ◌⊳◌, label_of}
@@ -22,9 +22,6 @@ use Rattle.meaning_proofs.proofs.Runs.{same_in}
 use Rattle.link_proofs.proofs.Exports.{whole_reexported}
 use Rattle.link_proofs.proofs.Acts.{puts_none}
 use Rattle.link_proofs.proofs.Laws.{Ends, target, value_trims, value_type_trims, value_shorthand_trims, linked_unfolds, link_trims, link_type_trims, link_shorthand_trims, same_linked}
-
-none_is_some : {A : Type 0} {a : A} → None ≡ Some a → ⊥
-none_is_some e = cc
 
 clean_label : (mark : ℕ) (t : Tree) → Clean no_names mark (label_of t)
 clean_label mark (node l ss cs) = (living_clean (none_dead mark) (node l ss cs) (no_dead (node l ss cs))).0

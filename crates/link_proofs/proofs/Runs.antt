@@ -1,6 +1,6 @@
 -- Whole runs of modules and scripts in which names stand for names.
 use Rattle.std.proofs.Common.{◌≡◌, ℕ, suc, Bool, true, false, ◌||◌, List, [], ◌∷◌, Option, Some, None, refl, sym, ap, subst, slice_get, cond, ◌∙◌}
-use Rattle.std.proofs.lemmas.Bool.{false≢true, true≢false, and_parts}
+use Rattle.std.proofs.lemmas.Bool.{false≢true, and_parts}
 use Rattle.swc_ast.specs.Tree.{Name, same_name, Text, Tree, Forest}
 use Rattle.swc_ast.specs.Value.{Env, Value, Undefined, ScriptThis, Function as FunctionValue, Values, is_data, all_data, Cell, State, Broken, Continued, Returned, Thrown, Outcome, Outside, Run, Context}
 use Rattle.swc_ast.specs.Scope.{Declaration, Lexical, Function as DeclaredFunction, has_name, found, is_found, declared, import_names}
@@ -27,10 +27,6 @@ same_some e = cc
 pub data Loose (L : Links) : List (Name × Value) → Type 0 where
   no_loose : Loose L []
   one_loose : (x : Name) (v : Value) {ps : List (Name × Value)} → (L.fixed x ≡ false) × (L.still x ≡ false) → Loose L ps → Loose L ((x, v) ∷ ps)
-
-or_false_left : (a b : Bool) → (a || b) ≡ true → a ≡ false → b ≡ true
-or_false_left true b e f = absurd (true≢false f)
-or_false_left false b e f = e
 
 pub all_loose : (L : Links) (ps : List (Name × Value)) → ((x : Name) → is_found x ps ≡ true → (L.fixed x ≡ false) × (L.still x ≡ false)) → Loose L ps
 all_loose L [] h = no_loose

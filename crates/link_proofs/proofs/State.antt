@@ -262,12 +262,3 @@ module _ {L : Links} where
 
     pub bind : {B : Type 0} {Q : World → B → Type 0} {w : World} {m n : Run A} {k l : A → Run B} → Runs L F R w m n → ((v : World) → Grown w v → (a : A) → R v a → Runs L F Q v (k a) (l a)) → Runs L F Q w (m >>= k) (n >>= l)
     bind hm hk = λ s h. then_ends (hm s h) hk
-
-    pub weaker : {Q : World → A → Type 0} {w : World} {m n : Run A} → ((v : World) (a : A) → R v a → Q v a) → Runs L F R w m n → Runs L F Q w m n
-    weaker {Q} {w} {m} {n} q hm = λ s h. go (hm s h)
-      where
-        go : {s : State} {o p : Outcome A} → Ends L F R w s o p → Ends L F Q w s o p
-        go (done l h r) = done l h (q _ _ r)
-        go (jump l h r) = jump l h r
-        go (outside o) = outside o
-        go (cut o) = cut o

@@ -1,21 +1,19 @@
 -- Names that are known to hold a literal: reads of them become the literal, and their declarations may go.
-use Rattle.std.proofs.Common.{◌≡◌, ℕ, zero, suc, Bool, true, false, ◌||◌, List, [], ◌++◌, Option, Some, None, refl, sym, ap, subst, ◌∙◌, slice_get, ◌&&◌, if◌then◌else◌}
+use Rattle.std.proofs.Common.{◌≡◌, ℕ, zero, suc, true, false, ◌||◌, List, [], ◌++◌, Option, Some, None, refl, sym, ap, subst, ◌∙◌, slice_get}
 use Rattle.swc_ast.specs.declared.Span.{Span}
 use Rattle.swc_ast.specs.declared.VarDeclKind.{VarDeclKind}
 use Rattle.swc_ast.specs.declared.VarDeclKind.TheVariants.{Var, Let, Const}
-use Rattle.swc_ast.specs.Tree.{Name, Read, Declarator, Tree, node, ε, ◌⊳◌, NameKey, TypeOfName, Unary, Shorthand, KeyValue, PlainKey}
-use Rattle.swc_ast.specs.Value.{Value, Undefined, is_data, Cell, State, Outcome, Done, Context, Run, and_then, Outside, TypeOf as TypeOfEvent}
+use Rattle.swc_ast.specs.Tree.{Name, Read, Declarator, Tree, node, ε, ◌⊳◌}
+use Rattle.swc_ast.specs.Value.{Value, Undefined, Cell, State, Outcome, Done, Outside}
 use Rattle.swc_ast.specs.Scope.{own_vars, has_name}
-use Rattle.swc_ast.specs.Meaning.{is_unresolved, held_value, read_bound, in_core, initialise, eval, evals, act, declare, type_of_name, one_field, read, ask, checked_type, is_host_name}
-use Rattle.swc_ast.specs.declared.UnaryOp.TheVariants.{TypeOf}
-use Rattle.swc_ast.specs.Operators.{unary_value}
+use Rattle.swc_ast.specs.Meaning.{is_unresolved, held_value, read_bound, in_core, initialise, eval, evals, act, declare}
 use Rattle.meaning_proofs.specs.Names.{Names, empty, full, Guarded, no_cell, a_cell}
-use Rattle.meaning_proofs.specs.Exact.{run_at, Trimmed, left_core, Trims, Yielded, yielded, Yields, Idle}
+use Rattle.meaning_proofs.specs.Exact.{run_at, Trimmed, left_core, Trims, Idle}
 use Rattle.meaning_proofs.specs.Roles.{Fits, DeclaresNone}
 use Rattle.meaning_proofs.proofs.Names.{other_name}
 use Rattle.meaning_proofs.proofs.Stores.{fits, bound_read}
-use Rattle.meaning_proofs.proofs.Laws.{trimmed_path, trimmed_itself}
-use Rattle.meaning_proofs.proofs.Quiet.{fits_nothing, Literal, a_number, a_text, a_truth, a_null, a_void, literal_runs, literal_nothing}
+use Rattle.meaning_proofs.proofs.Laws.{trimmed_path}
+use Rattle.meaning_proofs.proofs.Quiet.{fits_nothing, Literal, literal_runs, literal_nothing}
 use Rattle.meaning_proofs.proofs.ExpressionRules.{known_then}
 use Rattle.meaning_proofs.proofs.Drops.{initialised}
 use Rattle.meaning_proofs.proofs.Idles.{idle_trimmed}
@@ -25,13 +23,6 @@ pub record KnownName (N : Names) (mark : ℕ) (x : Name) (v : Value) : Type 0 wh
   pub is_guarded : N.guarded x ≡ true
   pub guard : N.guard x ≡ Some v
   pub is_bound : is_unresolved mark x ≡ false
-
-pub literal_data : {v : Value} {t : Tree} → Literal v t → is_data v ≡ true
-literal_data (a_number z ss) = refl
-literal_data (a_text t ss) = refl
-literal_data (a_truth b ss) = refl
-literal_data (a_null ss) = refl
-literal_data (a_void z ss rs) = refl
 
 -- an outcome that gives a known value and does nothing else, or leaves the core
 data Told (v : Value) (s : State) : Outcome Value → Type 0 where
@@ -48,22 +39,10 @@ read_known : (x : Name) (v : Value) (o : Option ℕ) (s : State) {g : Option Val
 read_known x v None s e h = told_left
 read_known x v (Some k) s e h = held_known v e h k s
 
-bound_type : (mark : ℕ) (x : Name) (c : Context) (s : State) → is_unresolved mark x ≡ false → type_of_name mark x c s ≡ and_then (read_bound x (c.env x) s) (λ v. in_core (unary_value TypeOf v))
-unfolding type_of_name
-bound_type mark x c s e =
-    ap (λ (b : Bool). if◌then◌else◌ {A = Run Value} (b && is_host_name x.text) (λ s. and_then (ask (TypeOfEvent x.text) s) checked_type) (λ s. and_then (read mark x c s) (λ v. in_core (unary_value TypeOf v))) s) e
-    ∙ ap (λ o. and_then o (λ v. in_core (unary_value TypeOf v))) (bound_read mark x c s e)
-
 module _ {N : Names} where
   told_trims : {v : Value} {s : State} {o : Outcome Value} → Told v s o → Trimmed N o (Done v s)
   told_trims told = trimmed_path refl
   told_trims told_left = left_core _
-
-  -- what follows it
-  told_then : {v : Value} {s : State} {o : Outcome Value} (f : Value → Run Value) → Told v s o → Trimmed N (and_then o f) (f v s)
-  unfolding and_then
-  told_then f told = trimmed_itself _
-  told_then f told_left = left_core _
 
   -- `x` to its literal
   pub inline : (mark : ℕ) (x : Name) (ss : List Span) {v : Value} {t : Tree} → KnownName N mark x v → Literal v t → Trims N (eval mark) (node (Read x) ss ε) t
@@ -72,24 +51,6 @@ module _ {N : Names} where
     by = λ n d c s g.
         subst (λ o. Trimmed N o (run_at (eval mark) n d t c s)) (sym (bound_read mark x c s k.is_bound))
         (subst (λ o. Trimmed N (read_bound x (c.env x) s) o) (sym (literal_runs mark n _ l c s)) (told_trims (read_known x v (c.env x) s k.guard (g.at x k.is_guarded))));
-  }
-
-  -- `typeof x`
-  pub inline_type : (mark : ℕ) (x : Name) (ss rs : List Span) {v : Value} {t : Tree} → KnownName N mark x v → Literal v t → Trims N (eval mark) (node (TypeOfName x) ss ε) (node (Unary TypeOf) rs (t ⊳ ε))
-  unfolding eval act evals type_of_name
-  inline_type mark x ss rs {v} {t} k l = record {
-    by = λ n d c s g.
-        subst (λ o. Trimmed N o (run_at (eval mark) n d (node (Unary TypeOf) rs (t ⊳ ε)) c s)) (sym (bound_type mark x c s k.is_bound))
-        (subst (λ o. Trimmed N (and_then (read_bound x (c.env x) s) (λ v. in_core (unary_value TypeOf v))) o) (sym (known_then (literal_runs mark n _ l c s) (λ v. in_core (unary_value TypeOf v)))) (told_then (λ v. in_core (unary_value TypeOf v)) (read_known x v (c.env x) s k.guard (g.at x k.is_guarded))));
-  }
-
-  -- a property `{x}`
-  pub inline_shorthand : (mark : ℕ) (x : Name) (ss rs us : List Span) {v : Value} {t : Tree} → KnownName N mark x v → Literal v t → Trims N (eval mark) (node (Shorthand x) ss ε) (node KeyValue rs (node (PlainKey (NameKey x.text)) us ε ⊳ t ⊳ ε))
-  unfolding eval act evals and_then
-  inline_shorthand mark x ss rs us {v} {t} k l = record {
-    by = λ n d c s g.
-        subst (λ o. Trimmed N (and_then o (λ v. one_field x.text v)) (and_then (run_at (eval mark) n d t c s) (λ v. one_field x.text v))) (sym (bound_read mark x c s k.is_bound))
-        (subst (λ o. Trimmed N (and_then (read_bound x (c.env x) s) (λ v. one_field x.text v)) (and_then o (λ v. one_field x.text v))) (sym (literal_runs mark n _ l c s)) (told_then (λ v. one_field x.text v) (read_known x v (c.env x) s k.guard (g.at x k.is_guarded))));
   }
 
   pub inline_fits : (x : Name) (ss : List Span) {v : Value} {t : Tree} → Literal v t → Fits N (node (Read x) ss ε) t
@@ -111,6 +72,3 @@ known_declares {N} k x ss r d e = record {
   is_no_declarator = λ y keeps. ap (λ b. b || false) (other_name N.dropped y x keeps d);
   is_no_import = λ y w. refl;
 }
-
-pub literal_yields : (mark : ℕ) {v : Value} {t : Tree} → Literal v t → Yields mark v t
-literal_yields mark {v} l = record { by = λ n d c s. subst (Yielded v) (sym (literal_runs mark n _ l c s)) yielded }

@@ -1,14 +1,13 @@
 -- Names that nothing reads: what is left of their declarations and assignments.
-use Rattle.std.proofs.Common.{◌≡◌, ℕ, Bool, true, false, ◌&&◌, ◌||◌, List, [], ◌∷◌, Option, Some, None, refl, sym, ap, subst, ◌∙◌, cond, slice_set, if◌then◌else◌}
+use Rattle.std.proofs.Common.{◌≡◌, ℕ, Bool, true, false, ◌||◌, List, [], ◌∷◌, Option, Some, None, refl, sym, ap, subst, ◌∙◌, cond, slice_set}
 use Rattle.std.proofs.lemmas.Bool.{true≢false}
 use Rattle.swc_ast.specs.declared.Span.{Span}
 use Rattle.swc_ast.specs.declared.VarDeclKind.{VarDeclKind}
 use Rattle.swc_ast.specs.declared.VarDeclKind.TheVariants.{Var, Let, Const}
-use Rattle.swc_ast.specs.declared.AssignOp.TheVariants.{Assign as Plain}
-use Rattle.swc_ast.specs.Tree.{Name, same_name, Assign, ExprStmt, VarDecl, Declarator, Tree, node, Forest, ε, ◌⊳◌}
+use Rattle.swc_ast.specs.Tree.{Name, same_name, ExprStmt, VarDecl, Declarator, Tree, node, Forest, ε, ◌⊳◌}
 use Rattle.swc_ast.specs.Value.{Value, Undefined, Cell, State, Outcome, Done, Jumps, Outside, Cut, Run, and_then, Context}
 use Rattle.swc_ast.specs.Scope.{Lexical, has_name}
-use Rattle.swc_ast.specs.Meaning.{gives, leaves, is_unresolved, cell_at, set_cell, write, write_host, write_bound, write_cell, is_initialised, initialise, initialise_bound, initialise_cell, assign, eval, evals, act, run_all, declare}
+use Rattle.swc_ast.specs.Meaning.{gives, cell_at, set_cell, write, initialise, initialise_bound, initialise_cell, eval, evals, act, run_all, declare}
 use Rattle.meaning_proofs.specs.Names.{Names, Counted, is_firm, is_known, Watched, is_kept, is_guarded}
 use Rattle.meaning_proofs.specs.Exact.{AlikeCells, run_at, Off, Trimmed, same_value, left_core, was_cut, Trims}
 use Rattle.meaning_proofs.specs.Roles.{holds_function, Fits, changed, SameNames}
@@ -29,34 +28,12 @@ module _ {N : Names} where
     guards = λ g. record { at = λ y h. guard_set N s x y k c v q h (g.at y h) };
   }
 
-  -- what a write does to a value that was given
-  written_if : (b : Bool) (x : Name) (k : ℕ) (c : Cell) (v : Value) → Unread N x → (s : State) → Trimmed N ((if b then (λ s. Done v (set_cell s x k (record c { held = Some v }))) else leaves) s) (Done v s)
-  written_if true x k c v u s = same_value (off_set x k c v u.is_dropped (free u.is_free) s)
-  written_if false x k c v u s = left_core _
-
-  written_cell : (x : Name) (k : ℕ) (v : Value) (o : Option Cell) → Unread N x → (s : State) → Trimmed N (write_cell x k v o s) (Done v s)
-  written_cell x k v None u s = left_core _
-  written_cell x k v (Some c) u s = written_if (c.writable && is_initialised c.held) x k c v u s
-
-  written_bound : (x : Name) (v : Value) (o : Option ℕ) → Unread N x → (s : State) → Trimmed N (write_bound x v o s) (Done v s)
-  written_bound x v None u s = left_core _
-  written_bound x v (Some k) u s = written_cell x k v (cell_at s x k) u s
-
-  pub written : (mark : ℕ) (x : Name) (v : Value) (c : Context) → is_unresolved mark x ≡ false → Unread N x → (s : State) → Trimmed N (write mark x v c s) (Done v s)
-  unfolding write
-  written mark x v c e u s = subst (λ (b : Bool). Trimmed N ((if b then write_host x.text v else write_bound x v (c.env x)) s) (Done v s)) (sym e) (written_bound x v (c.env x) u s)
-
   pub trimmed_end : (o : Outcome Value) (f : Value → Run Value) → ((v : Value) (s : State) → Trimmed N (f v s) (Done v s)) → Trimmed N (and_then o f) o
   unfolding and_then
   trimmed_end (Done v s) f h = h v s
   trimmed_end (Jumps j s) f h = trimmed_itself _
   trimmed_end Outside f h = left_core _
   trimmed_end Cut f h = was_cut _
-
-  -- `x = r` to `r`
-  pub assign_only : (mark : ℕ) (x : Name) (ss : List Span) (r : Tree) → is_unresolved mark x ≡ false → Unread N x → Trims N (eval mark) (node (Assign Plain x) ss (r ⊳ ε)) r
-  unfolding eval act evals assign
-  assign_only mark x ss r e u = record { by = λ n d c s g. trimmed_end (run_at (eval mark) n d r c s) _ (λ v s. written mark x v c e u s) }
 
   -- what an initialisation does
   set_at : (x : Name) (k : ℕ) (v : Value) (o : Option Cell) → N.dropped x ≡ true → Puts N x v → (s : State) → Trimmed N (initialise_cell x k v o s) (Done Undefined s)

@@ -1,22 +1,19 @@
 -- Statements and declarators that go: they do nothing but write to dropped names.
-use Rattle.std.proofs.Common.{◌≡◌, ℕ, pos, Bool, false, ◌||◌, List, Option, Some, None, refl, sym, ap, subst, cond, if◌then◌else◌}
+use Rattle.std.proofs.Common.{◌≡◌, ℕ, false, ◌||◌, List, Some, None, refl, ap, cond}
 use Rattle.swc_ast.specs.declared.Span.{Span}
 use Rattle.swc_ast.specs.declared.VarDeclKind.{VarDeclKind}
 use Rattle.swc_ast.specs.declared.VarDeclKind.TheVariants.{Var, Let, Const}
-use Rattle.swc_ast.specs.declared.UpdateOp.{UpdateOp}
-use Rattle.swc_ast.specs.Tree.{Name, Text, ExprStmt, Update, VarDecl, Declarator, FnDecl, Import, Tree, node, Forest, ε, ◌⊳◌}
-use Rattle.swc_ast.specs.Value.{Value, Undefined, Num, State, Outcome, Done, Run, and_then}
-use Rattle.swc_ast.specs.Operators.{to_number, number_value, binary_value}
+use Rattle.swc_ast.specs.Tree.{Name, Text, ExprStmt, VarDecl, Declarator, FnDecl, Import, node, Forest, ε}
+use Rattle.swc_ast.specs.Value.{Value, Undefined, State, Outcome, Done}
 use Rattle.swc_ast.specs.Scope.{Function, has_name, specifier_names}
-use Rattle.swc_ast.specs.Meaning.{gives, in_core, is_unresolved, step_of, update, eval, evals, act, run_all, declare}
-use Rattle.meaning_proofs.specs.Names.{Names, Watched, is_kept}
+use Rattle.swc_ast.specs.Meaning.{eval, evals, act, run_all, declare}
+use Rattle.meaning_proofs.specs.Names.{Names, Watched}
 use Rattle.meaning_proofs.specs.Exact.{Off, Trimmed, same_value, left_core, was_cut, Idled, idled, idle_left, idle_cut, Idle, IdleAfter}
 use Rattle.meaning_proofs.specs.Roles.{holds_function, DeclaresNone}
 use Rattle.meaning_proofs.proofs.Names.{other_name}
-use Rattle.meaning_proofs.proofs.Stores.{free, bound_read}
+use Rattle.meaning_proofs.proofs.Stores.{free}
 use Rattle.meaning_proofs.proofs.Laws.{off_itself, apart_itself}
-use Rattle.meaning_proofs.proofs.Quiet.{Pure, Still, still_value, still_left, still_bound}
-use Rattle.meaning_proofs.proofs.Drops.{Unread, initialised, written, other_var, other_counted, other_than}
+use Rattle.meaning_proofs.proofs.Drops.{Unread, initialised, other_than}
 
 module _ {N : Names} where
   -- where what was done is trimmed to nothing
@@ -24,22 +21,6 @@ module _ {N : Names} where
   idle_trimmed v s (same_value h) = idled h
   idle_trimmed v s (left_core o) = idle_left
   idle_trimmed v s (was_cut o) = idle_cut
-
-  idle_still : {s : State} {o : Outcome Value} (k : Value → Run Value) → Still s o → ((v : Value) → Idled (Off N) s (k v s)) → Idled (Off N) s (and_then o k)
-  unfolding and_then
-  idle_still k (still_value v) h = h v
-  idle_still k still_left h = idle_left
-
-  idle_in_core : {A : Type 0} (o : Option A) (s : State) (k : A → Run Value) → ((a : A) → Idled (Off N) s (k a s)) → Idled (Off N) s (and_then (in_core o s) k)
-  unfolding and_then
-  idle_in_core None s k h = idle_left
-  idle_in_core (Some a) s k h = h a
-
-  idle_end : {s : State} {o : Outcome Value} (f : Value → Value) → Idled (Off N) s o → Idled (Off N) s (and_then o (λ v. gives (f v)))
-  unfolding and_then
-  idle_end f (idled h) = idled h
-  idle_end f idle_left = idle_left
-  idle_end f idle_cut = idle_cut
 
   module _ (mark : ℕ) where
     -- a function's declaration
@@ -59,24 +40,6 @@ module _ {N : Names} where
     idle_unset Let x ss u = record { by = λ n d c s g. idle_trimmed Undefined s (initialised x Undefined c u.is_dropped (free u.is_free) s) }
     idle_unset Const x ss u = record { by = λ n d c s g. idle_trimmed Undefined s (initialised x Undefined c u.is_dropped (free u.is_free) s) }
 
-    -- a declarator with a pure first value
-    pub idle_declarator : (k : VarDeclKind) (x : Name) (ss : List Span) (r : Tree) → Unread N x → Pure mark r → Idle N (eval mark) (node (Declarator k x) ss (r ⊳ ε))
-    unfolding eval act evals declare
-    idle_declarator Var x ss r u p = record { by = λ n d c s g. idle_still _ (p.by n _ c s) (λ v. idle_trimmed Undefined s (initialised x v c u.is_dropped (free u.is_free) s)) }
-    idle_declarator Let x ss r u p = record { by = λ n d c s g. idle_still _ (p.by n _ c s) (λ v. idle_trimmed Undefined s (initialised x v c u.is_dropped (free u.is_free) s)) }
-    idle_declarator Const x ss r u p = record { by = λ n d c s g. idle_still _ (p.by n _ c s) (λ v. idle_trimmed Undefined s (initialised x v c u.is_dropped (free u.is_free) s)) }
-
-    -- `x++;`
-    pub idle_update : (op : UpdateOp) (prefix : Bool) (x : Name) (ss rs : List Span) → is_unresolved mark x ≡ false → Unread N x → Idle N (eval mark) (node ExprStmt ss (node (Update op prefix x) rs ε ⊳ ε))
-    unfolding eval act evals update
-    idle_update op prefix x ss rs e u = record {
-      by = λ n d c s g.
-          idle_end (λ v. Undefined) (idle_still _ (subst (λ o. Still s o) (sym (bound_read mark x c s e)) (still_bound x (c.env x) s)) (λ a.
-          idle_in_core (to_number a) s _ (λ m.
-          idle_in_core (binary_value (step_of op) (number_value m) (Num (pos 1))) s _ (λ new.
-          idle_end (λ r. if prefix then new else number_value m) (idle_trimmed new s (written mark x new c e u s))))));
-    }
-
   -- what they declare
 
   pub function_declares : (x : Name) (ss : List Span) (cs : Forest) → Unread N x → DeclaresNone N (node (FnDecl x) ss cs)
@@ -88,11 +51,6 @@ module _ {N : Names} where
     is_no_declarator = λ y keeps. refl;
     is_no_import = λ y w. refl;
   }
-
-  pub declarator_declares : (k : VarDeclKind) (x : Name) (ss : List Span) (cs : Forest) → Unread N x → DeclaresNone N (node (Declarator k x) ss cs)
-  declarator_declares Var x ss cs u = record { is_no_export = refl; vars = λ y w. other_counted x u y w; declares = λ y keeps. refl; functions = λ y g. refl; is_no_declarator = λ y keeps. other_var x u y (is_kept keeps); is_no_import = λ y w. refl }
-  declarator_declares Let x ss cs u = record { is_no_export = refl; vars = λ y w. refl; declares = λ y keeps. refl; functions = λ y g. refl; is_no_declarator = λ y keeps. other_var x u y (is_kept keeps); is_no_import = λ y w. refl }
-  declarator_declares Const x ss cs u = record { is_no_export = refl; vars = λ y w. refl; declares = λ y keeps. refl; functions = λ y g. refl; is_no_declarator = λ y keeps. other_var x u y (is_kept keeps); is_no_import = λ y w. refl }
 
   -- a declaration of which no declarator is left
   pub none_left_declares : (k : VarDeclKind) (ss : List Span) → DeclaresNone N (node (VarDecl k) ss ε)

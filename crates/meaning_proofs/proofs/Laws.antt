@@ -27,14 +27,6 @@ module _ {A : Type 0} where
   refined_trans Outside p q h i = tt
   refined_trans Cut p q h i = tt
 
-  -- what goes on after an outcome
-  pub refined_then : {B : Type 0} (o : Outcome A) (f g : A → Run B) → ((a : A) (s : State) → Refined (f a s) (g a s)) → Refined (and_then o f) (and_then o g)
-  unfolding and_then
-  refined_then (Done a s) f g h = h a s
-  refined_then (Jumps j s) f g h = refl
-  refined_then Outside f g h = tt
-  refined_then Cut f g h = tt
-
   pub and_then_assoc : {B E : Type 0} (o : Outcome A) (f : A → Run B) (g : B → Run E) → and_then (and_then o f) g ≡ and_then o (λ a s. and_then (f a s) g)
   unfolding and_then
   and_then_assoc (Done a s) f g = refl
@@ -102,9 +94,6 @@ module _ (mark : ℕ) where
   pub exact_path : {t u : Tree} → ((n : ℕ) (call : Caller) (c : Context) (s : State) → eval mark n call t c s ≡ eval mark n call u c s) → Exact mark t u
   exact_path h = record { by = λ n d c. record { by = λ s. refined_path (h n (call_at (eval mark n) d) c s) } }
 
-  pub exact_refined : {t u : Tree} → ((n : ℕ) (call : Caller) (c : Context) (s : State) → Refined (eval mark n call t c s) (eval mark n call u c s)) → Exact mark t u
-  exact_refined h = record { by = λ n d c. record { by = λ s. h n (call_at (eval mark n) d) c s } }
-
   pub exact_trans : {t u v : Tree} → Exact mark t u → Exact mark u v → Exact mark t v
   exact_trans h i = record { by = λ n d c. record { by = λ s. refined_trans _ _ _ ((h.by n d c).by s) ((i.by n d c).by s) } }
 
@@ -113,12 +102,6 @@ module _ (mark : ℕ) where
 
   pub list_exact_path : {ts us : Forest} → ((n : ℕ) (call : Caller) (c : Context) (s : State) → run_all (each_of (eval mark n call) ts) c s ≡ run_all (each_of (eval mark n call) us) c s) → ListExact mark ts us
   list_exact_path h = record { by = λ n d c. record { by = λ s. refined_path (h n (call_at (eval mark n) d) c s) } }
-
-  pub list_exact_refined : {ts us : Forest} → ((n : ℕ) (call : Caller) (c : Context) (s : State) → Refined (run_all (each_of (eval mark n call) ts) c s) (run_all (each_of (eval mark n call) us) c s)) → ListExact mark ts us
-  list_exact_refined h = record { by = λ n d c. record { by = λ s. h n (call_at (eval mark n) d) c s } }
-
-  pub list_exact_trans : {ts us vs : Forest} → ListExact mark ts us → ListExact mark us vs → ListExact mark ts vs
-  list_exact_trans h i = record { by = λ n d c. record { by = λ s. refined_trans _ _ _ ((h.by n d c).by s) ((i.by n d c).by s) } }
 
 module _ {N : Names} {does : Evaluation} where
   pub trims_itself : (t : Tree) → Trims N does t t
@@ -179,6 +162,3 @@ module _ {N : Names} {mark : ℕ} {does : Evaluation} where
 
   pub first_listed : {ts us ws : Forest} → ListTrims N does ts us → SameLists N ts us → Listed N mark does us ws → Listed N mark does ts ws
   first_listed h f (listed a g k e i) = listed (list_trims_trans h a) (same_lists_trans f g) k e i
-
-  pub last_listed : {ts vs ws : Forest} → Listed N mark does ts vs → ListExact mark vs ws → SameLists N vs ws → Listed N mark does ts ws
-  last_listed (listed a g k e i) h f = listed a g k (list_exact_trans mark e h) (same_lists_trans i f)

@@ -1,19 +1,19 @@
 -- How a pass makes its rewrites: a node with its children rewritten, and then a step.
-use Rattle.std.proofs.Common.{◌≡◌, ℕ, Bool, true, false, List, [], Option, Some, None, refl, sym, ◌∙◌, not, ◌&&◌, ◌||◌, ◌∷◌, subst}
+use Rattle.std.proofs.Common.{◌≡◌, ℕ, Bool, true, false, List, [], Option, refl, sym, ◌∙◌, not, ◌&&◌, ◌||◌, ◌∷◌, subst}
 use Rattle.std.proofs.lemmas.Bool.{true≢false, false≢true, and_parts, not-true}
 use Rattle.swc_ast.specs.Labels.{is_block}
 use Rattle.swc_ast.specs.declared.Span.{Span}
 use Rattle.swc_ast.specs.declared.VarDeclKind.{VarDeclKind}
-use Rattle.swc_ast.specs.Tree.{Name, Text, Label, Fn, Arrow, Method, FnDecl, ExportDefaultFn, VarDecl, Declarator, Import, Module, Script, Tree, node, Forest, ε, ◌⊳◌, Param, Switch, same_name}
-use Rattle.swc_ast.specs.Value.{Value, Undefined, is_data}
-use Rattle.swc_ast.specs.Scope.{own_vars, case_statements}
+use Rattle.swc_ast.specs.Tree.{Name, Text, Label, Fn, Arrow, Method, FnDecl, ExportDefaultFn, VarDecl, Import, Module, Script, Tree, node, Forest, ε, ◌⊳◌, Param, Switch, same_name}
+use Rattle.swc_ast.specs.Value.{Value}
+use Rattle.swc_ast.specs.Scope.{case_statements}
 use Rattle.swc_ast.specs.Meaning.{eval}
 use Rattle.swc_ast.specs.Run.{sources, once, exported, Same}
 use Rattle.meaning_proofs.specs.Names.{Names, Exported, stays}
 use Rattle.meaning_proofs.specs.Sameness.{heeded, ignoring}
-use Rattle.meaning_proofs.specs.Exact.{CasesTrim, Discriminant, GivesUndefined, Yields}
-use Rattle.meaning_proofs.specs.Roles.{FunctionOf, Clean, SameBody, SameScope, SameSlack, SameVars, Scoped, rewrites_each}
-use Rattle.meaning_proofs.specs.Rewrites.{SameExports, is_exported, Specifiers, kept, kept_list, kept_declarators, kept_import, kept_known, kept_unset, kept_default, kept_switch, drop_own, unseen, Rewrites, All, Listed, modules, scripts}
+use Rattle.meaning_proofs.specs.Exact.{CasesTrim, Discriminant, GivesUndefined}
+use Rattle.meaning_proofs.specs.Roles.{FunctionOf, Clean, SameScope, SameSlack, SameVars, Scoped, rewrites_each}
+use Rattle.meaning_proofs.specs.Rewrites.{SameExports, is_exported, Specifiers, kept, kept_list, kept_declarators, kept_import, kept_default, kept_switch, unseen, Rewrites, All, Listed, modules, scripts}
 use Rattle.meaning_proofs.proofs.Names.{same_name_eq}
 use Rattle.meaning_proofs.proofs.Trees.{eval_unfolds}
 use Rattle.meaning_proofs.proofs.Laws.{only_either, only_kept, list_trims_itself, same_lists_itself, list_exact_itself}
@@ -66,13 +66,6 @@ module _ {N : Names} {mark : ℕ} where
   pub rebuilt_import : (src : Text) (ss rs : List Span) {cs us : Forest} → Specifiers N cs us → Rewrites N mark (eval mark) (node (Import src) ss cs) (node (Import src) rs us)
   rebuilt_import src ss rs {cs} h = only_kept (kept_import src (eval_unfolds mark (node (Import src) ss cs)) h)
 
-  -- the declarator of a known name that stays
-  pub rebuilt_known : (k : VarDeclKind) (x : Name) {v : Value} (ss rs : List Span) {t u : Tree} → own_vars (Declarator k x) ≡ [] → N.dropped x ≡ false → N.guard x ≡ Some v → is_data v ≡ true → Yields mark v u → Rewrites N mark (eval mark) t u → Rewrites N mark (eval mark) (node (Declarator k x) ss (t ⊳ ε)) (node (Declarator k x) rs (u ⊳ ε))
-  rebuilt_known k x ss rs {t} e d g q y h = only_kept (kept_known k (eval_unfolds mark (node (Declarator k x) ss (t ⊳ ε))) e d g q y h)
-
-  pub rebuilt_unset : (k : VarDeclKind) (x : Name) (ss rs : List Span) → N.dropped x ≡ false → N.guard x ≡ Some Undefined → Rewrites N mark (eval mark) (node (Declarator k x) ss ε) (node (Declarator k x) rs ε)
-  rebuilt_unset k x ss rs d g = only_kept (kept_unset k (eval_unfolds mark (node (Declarator k x) ss ε)) d g)
-
   -- a parameter whose default goes
   pub without_default : (x : Name) (ss rs : List Span) {t u : Tree} → N.dropped x ≡ false → N.guarded x ≡ false → Rewrites N mark (eval mark) t u → GivesUndefined mark u → Rewrites N mark (eval mark) (node (Param x) ss (t ⊳ ε)) (node (Param x) rs ε)
   without_default x ss rs {t} d g r y = only_kept (kept_default (eval_unfolds mark (node (Param x) ss (t ⊳ ε))) d g r y)
@@ -81,10 +74,6 @@ module _ {N : Names} {mark : ℕ} where
   pub other_cases : (ds es : List Bool) (ss rs : List Span) {t u : Tree} {cs vs us : Forest} {known : Option Value} → Rewrites N mark (eval mark) t u → Discriminant mark u known → CasesTrim N (eval mark) known ds cs es vs
       → SameScope N (case_statements (t ⊳ cs)) (case_statements (t ⊳ vs)) → SameVars N (t ⊳ cs) (t ⊳ vs) → All N mark (eval mark) false vs us → Rewrites N mark (eval mark) (node (Switch ds) ss (t ⊳ cs)) (node (Switch es) rs (u ⊳ us))
   other_cases ds es ss rs {t} {cs = cs} r k a e i h = only_kept (kept_switch (eval_unfolds mark (node (Switch ds) ss (t ⊳ cs))) r k a e i h)
-
-  -- a function that loses its own name
-  pub unnamed : (x : Name) (ss rs : List Span) {cs us : Forest} → N.dropped x ≡ true → N.guarded x ≡ false → SameBody N cs us → All N mark (eval mark) false cs us → Rewrites N mark (eval mark) (node (Fn (Some x)) ss cs) (node (Fn None) rs us)
-  unnamed x ss rs {cs} d g sc h = only_kept (drop_own (eval_unfolds mark (node (Fn (Some x)) ss cs)) d g sc h)
 
   -- a function of a name that nothing reads: its body never runs
   pub other_function : {x : Name} (l : Label) (ss rs : List Span) {cs us : Forest} → FunctionOf x l → N.loose x ≡ true → N.guarded x ≡ false → Rewrites N mark (eval mark) (node l ss cs) (node l rs us)

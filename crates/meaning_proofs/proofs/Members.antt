@@ -2,7 +2,6 @@
 use Rattle.std.proofs.Common.{◌≡◌, ℕ, zero, suc, Bool, true, false, ◌&&◌, List, Option, Some, None, refl, ap, subst, bytes_eq, codes, length, slice_get, cond, nat_le, nat_lt, encode_utf8, pos}
 use Rattle.swc_ast.specs.Value.{Value, Undefined, Num, Text, Values, Fields}
 use Rattle.swc_ast.specs.Operators.{value_at, values_len, values_append, field_value, key_before, insert_field, replace_field, if_some, put_or_replace, put_field, put_fields, field_or_undefined, unit_at, own_property, is_inherited, index_of, unit_text, units}
-use Rattle.swc_ast.specs.Meaning.{token_text}
 use Rattle.meaning_proofs.proofs.Relation.{Pairing, Maybe, neither, both, V, Vs, Fs, undefined, num, text, items, entries, no_value, value, no_entry, entry}
 use Rattle.meaning_proofs.proofs.Data.{data_same}
 use Rattle.meaning_proofs.proofs.Results.{DataIn}
@@ -101,7 +100,3 @@ module _ {P : Pairing} where
   own_property_sim (items r) k = cond_maybe (bytes_eq k (codes "length")) (length_sim r) (item_at_sim (index_of k) r)
   own_property_sim (text t) k = maybe_data (own_property (Text t) k) (text_data t k)
   own_property_sim _ k = neither
-
-  pub same_token : {v w : Value} → V P v w → token_text v ≡ token_text w
-  same_token (items r) = refl
-  same_token _ = refl

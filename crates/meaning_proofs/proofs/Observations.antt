@@ -1,9 +1,7 @@
 -- To do the same is an order on modules: it goes from one to the next.
 use Rattle.std.proofs.Common.{ℕ, Bool, true, false, refl, ap, ◌∙◌}
-use Rattle.swc_ast.specs.Tree.{Text, Tree}
+use Rattle.swc_ast.specs.Tree.{Tree}
 use Rattle.swc_ast.specs.Run.{counted, Same}
-use Rattle.meaning_proofs.specs.Exact.{Evaluation}
-use Rattle.meaning_proofs.specs.Sameness.{counted_but, SameIn}
 
 pub same_itself : (mark : ℕ) (loads : Bool) (t : Tree) → Same mark loads t t
 unfolding Same
@@ -22,11 +20,3 @@ unfolding Same
 same_weaker mark t u h n d w calls o e =
     let p = h n d w calls o e in
     (p.0, p.1, ap (counted false) p.2)
-
--- behind a pass whose first module has an evaluation of its own, another where loads count
-pub same_in_then : (does : Evaluation) (mark : ℕ) (ignores : Text → Bool) (t u v : Tree) → SameIn does mark ignores t u → Same mark true u v → SameIn does mark ignores t v
-unfolding Same SameIn
-same_in_then does mark ignores t u v h i n d w calls o e =
-    let p = h n d w calls o e in
-    let q = i n d w calls p.0 p.1 in
-    (q.0, q.1, ap (counted_but ignores) q.2 ∙ p.2)

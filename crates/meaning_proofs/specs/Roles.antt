@@ -1,6 +1,5 @@
 -- What a parent sees of a child beside what it does: which names it declares, and a few labels.
-use Rattle.std.specs.Prelude.{ℕ, ◌≡◌, Bool, true, false, List, Option, Some, None, if◌then◌else◌}
-use Rattle.swc_ast.specs.declared.Span.{Span}
+use Rattle.std.specs.Prelude.{ℕ, ◌≡◌, Bool, true, false, Option, Some, None, if◌then◌else◌}
 use Rattle.swc_ast.specs.Tree.{Name, Label, Read, CallEval, Shorthand, TypeOfName, Assign, Update, Fn, Arrow, Method, Params, Body, Param, Block, CaseBody, Try, VarDecl, Declarator, FnDecl, Module, Script, Import, ImportNamed, ImportDefault, ImportStar, ExportDecl, ExportNamed, ExportSpecifier, ExportDefaultFn, ExportDefaultExpr, Tree, node, Forest, ε, ◌⊳◌, label_of, spans_of, children_of}
 use Rattle.swc_ast.specs.Scope.{Declaration, Lexical, Function, name_or_default, default_name, has_name, declarator_name, param_names, body_declares, vars, vars_all, found, is_found, declared_by, declared, import_names_of}
 use Rattle.swc_ast.specs.Meaning.{Caller, act, copied_names}

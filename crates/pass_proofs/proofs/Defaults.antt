@@ -1,5 +1,5 @@
 -- A default that is undefined anyway gives undefined, and does nothing else.
-use Rattle.std.proofs.Common.{◌≡◌, ℕ, true, false, ◌&&◌, if◌then◌else◌, List, Some, None, refl, ap, ◌∙◌, codes, bytes_eq}
+use Rattle.std.proofs.Common.{◌≡◌, ℕ, true, ◌&&◌, if◌then◌else◌, List, Some, None, refl, ap, ◌∙◌, codes, bytes_eq}
 use Rattle.std.proofs.lemmas.Bool.{false≢true, and_parts}
 use Rattle.std.specs.Cmp.Lexicographic.{bytes_decides}
 use Rattle.swc_ast.specs.declared.UnaryOp.TheVariants.{Void}

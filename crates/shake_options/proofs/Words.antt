@@ -1,7 +1,6 @@
 -- Reading the words of a command line one after another.
-use Rattle.std.proofs.Common.{arith, ◌≡◌, ℕ, true, false, List, [], ◌∷◌, Option, None, Some, map, refl, sym, subst, ◌∙◌}
-use Rattle.std.proofs.lemmas.Grind.{common_steps}
-use Rattle.shake_options.specs.CommandLine.{takes_operand, switched, valued, changed_by, retained_among}
+use Rattle.std.proofs.Common.{◌≡◌, ℕ, true, false, List, [], ◌∷◌, Option, None, Some, map, refl, sym, subst, ◌∙◌}
+use Rattle.shake_options.specs.CommandLine.{takes_operand, switched, valued, changed_by}
 use Rattle.shake_options.specs.declared.options.Options.{Options}
 
 -- an option that stands alone is taken
@@ -23,8 +22,3 @@ taken-valued f before middle after w n o p whole first second takes is before-is
     let at_word = subst (λ ws. changed_by (map f ws) o ≡ whole) first before-is in
     let at_operand = subst (λ ws. changed_by (f w ∷ map f ws) o ≡ whole) second at_word in
     sym (changed_by-valued (f w) (f n) (map f after) o p takes is) ∙ at_operand
-
--- an option without an operand retains nothing
-pub retained_among-alone : (word : List ℕ) (words : List (List ℕ)) → takes_operand word ≡ false → retained_among (word ∷ words) ≡ retained_among words
-retained_among-alone word [] alone = refl
-retained_among-alone word (next ∷ words) alone = grind (arith, common_steps)

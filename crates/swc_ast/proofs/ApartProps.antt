@@ -2,7 +2,7 @@
 use Rattle.std.proofs.Common.{◌≡◌, refl, sym, ap, ◌∙◌, Bool, false, ◌==◌, subst}
 use Rattle.std.specs.Prelude.{ℕ}
 use Rattle.swc_ast.specs.Tree as tree
-use Rattle.swc_ast.specs.Tree.{Label, Tree, label_of}
+use Rattle.swc_ast.specs.Tree.{Label, label_of}
 use Rattle.swc_ast.specs.Same.{same}
 use Rattle.swc_ast.specs.Views.{prop_tree, prop_or_spread_tree}
 use Rattle.swc_ast.proofs.Labels.{differ}

@@ -6,10 +6,6 @@ pub ends : (a : Bool) → a ≡ (a && true)
 ends true = refl
 ends false = refl
 
-pub grouped : (a b c : Bool) → ((a && b) && c) ≡ (a && (b && c))
-grouped true b c = refl
-grouped false b c = refl
-
 pub joined-1 : {a a' : Bool} → a ≡ a' → a ≡ (a' && true)
 joined-1 {a = a} p = ends a ∙ ap (λ x. x && true) p
 

@@ -6,7 +6,7 @@ use Rattle.std.specs.Cmp.Lexicographic.{pointwise}
 use Rattle.std.specs.declared.alloc.Global.{Global}
 use Rattle.std.specs.declared.boxed.Box.{Box}
 use Rattle.swc_ast.specs.Tree as tree
-use Rattle.swc_ast.specs.Tree.{Label, Name, Text, same_name, Tree, node, Forest, ε, ◌⊳◌}
+use Rattle.swc_ast.specs.Tree.{Label, same_name, Tree, node, Forest, ε, ◌⊳◌}
 use Rattle.swc_ast.specs.Parts.{absent, list_trees, optional_trees, tree_or_absent, ident_name, ident_tree, option_ident_name, option_ident_spans}
 use Rattle.swc_ast.specs.Expressions.{FunctionTrees, function_node, key_tree}
 use Rattle.swc_ast.specs.Statements.{LoopTrees, while_node, do_while_node, option_init_tree, is_default_case, case_children, is_missing, var_tree}

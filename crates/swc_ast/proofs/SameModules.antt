@@ -1,11 +1,11 @@
 -- What the comparison of parts says of imports, exports and items.
 use Rattle.std.proofs.Common.{◌≡◌, refl, sym, ap, ◌∙◌, Bool, true, false, ◌&&◌, ◌==◌, [], ◌∷◌}
 use Rattle.swc_ast.specs.Tree as tree
-use Rattle.swc_ast.specs.Tree.{Label, Name, label_of}
+use Rattle.swc_ast.specs.Tree.{label_of}
 use Rattle.swc_ast.specs.Expressions.{FunctionTrees, function_node}
 use Rattle.swc_ast.specs.Parts.{option_ident_name, option_ident_spans}
 use Rattle.std.specs.Prelude.{Option}
-use Rattle.swc_ast.specs.Tree.{Tree, node, Forest, ε, ◌⊳◌, same_name}
+use Rattle.swc_ast.specs.Tree.{node, ε, ◌⊳◌, same_name}
 use Rattle.swc_ast.specs.Modules.{import_specifier_tree, module_decl_tree}
 use Rattle.swc_ast.specs.Same.{same, same_label, same_option, same_spans, same_forest}
 use Rattle.swc_ast.specs.Views.{stmt_tree}

@@ -1,5 +1,5 @@
 -- What the comparison of parts says of the nodes that they make up.
-use Rattle.std.proofs.Common.{◌≡◌, refl, sym, ap, ◌∙◌, Bool, true, false, ◌&&◌, ◌||◌, List, [], ◌∷◌, map, length, ◌<◌, ◌≤◌, ◌+◌, drop, get_or, subst}
+use Rattle.std.proofs.Common.{◌≡◌, refl, sym, ap, ◌∙◌, Bool, true, false, ◌&&◌, List, [], ◌∷◌, map, length, ◌<◌, ◌≤◌, ◌+◌, drop, get_or, subst}
 use Rattle.std.proofs.lemmas.List.{drop_more, drop_all}
 use Rattle.std.specs.Prelude.{ℕ, not, Option, Some, None, bytes_eq}
 use Rattle.std.specs.Cmp.Lexicographic.{pointwise}
@@ -41,15 +41,6 @@ use Rattle.swc_ast.specs.declared.expressions.MemberProp.TheVariants as prop
 -- a function of two values that are known
 pub two-at : {A B C : Type 0} (F : A → B → C) {a x : A} {b y : B} → a ≡ x → b ≡ y → F x y ≡ F a b
 two-at F p q = cc
-
--- texts by both of their comparisons
-pub or-then : (r p q : Bool) → r ≡ p → r ≡ true → r ≡ (p || q)
-or-then r true q e t = e
-or-then r false q e t = impossible (sym e ∙ t)
-
-pub or-else : (r p q : Bool) → r ≡ p → r ≡ false → q ≡ (p || q)
-or-else r true q e f = impossible (sym f ∙ e)
-or-else r false q e f = refl
 
 -- a conjunction in order
 pub both : {a a' b b' : Bool} → a ≡ a' → b ≡ b' → (a && b) ≡ (a' && b')

@@ -3,7 +3,7 @@ use Rattle.std.specs.Prelude.{Bool, true, false, not, ◌&&◌, ◌||◌, ◌==�
 use Rattle.std.specs.Cmp.Lexicographic.{pointwise}
 use Rattle.std.specs.Ordering.{int_eq}
 use Rattle.std.specs.Bool.{beq}
-use Rattle.swc_ast.specs.Tree.{Text, Name, same_name, Key, NameKey, TextKey, NumberKey, ItemKind, Plain, Spread, Hole, Label, Tree, node, Forest, ε, ◌⊳◌}
+use Rattle.swc_ast.specs.Tree.{Text, same_name, Key, NameKey, TextKey, NumberKey, ItemKind, Plain, Spread, Hole, Label, Tree, node, Forest, ε, ◌⊳◌}
 use Rattle.swc_ast.specs.Tree as tree
 use Rattle.swc_ast.specs.declared.Span.{Span}
 use Rattle.swc_ast.specs.declared.UnaryOp.{UnaryOp}

@@ -1,6 +1,6 @@
 //! Comparison of the nodes that hold each other.
 ghost use Rattle.swc_ast.specs.Nodes.{function_tree, case_tree, loop_tree};
-ghost use Rattle.swc_ast.specs.Views.{expr_tree, stmt_tree, decl_tree, arrow_body_tree, prop_tree, prop_or_spread_tree, arrow_tree, method_tree, for_tree, if_tree, switch_tree, function_trees};
+ghost use Rattle.swc_ast.specs.Views.{expr_tree, stmt_tree, decl_tree, arrow_body_tree, prop_tree, prop_or_spread_tree, arrow_tree, method_tree, for_tree, if_tree, switch_tree};
 
 use crate::declarations::{Decl, Function};
 use crate::expressions::{ArrowExpr, BlockStmtOrExpr, Expr, MethodProp, Prop, PropOrSpread};

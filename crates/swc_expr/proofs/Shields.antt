@@ -22,12 +22,7 @@ use Rattle.pass_places.specs.Places.{is_shield, nowhere, shielded}
 use Rattle.expr_rules.specs.Replaced.{Replaced}
 use Rattle.pass_proofs.proofs.ExprTrees.{is_an_expression}
 use Rattle.pass_places.specs.Dropped.{MayDrop}
-use Rattle.swc_expr.specs.Simplifies.{Rests, Simplifies, folds, default_goes, simplify_pass}
-
--- a sequence rests
-pub shield_rests : (p : Place) (t : Tree) → is_shield p t ≡ true → Rests t
-shield_rests p (node Seq ss cs) h = refl
-shield_rests p (node l ss cs) h = absurd (false≢true h)
+use Rattle.swc_expr.specs.Simplifies.{Simplifies, folds, default_goes, simplify_pass}
 
 -- sequences stand alone everywhere
 sequence_alone : (p : Place) (ss : List Span) (cs : Forest) → stands_alone p (node Seq ss cs) ≡ true

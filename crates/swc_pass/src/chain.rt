@@ -1,5 +1,5 @@
 //! Two passes, one after the other.
-ghost use Rattle.std.specs.Prelude.{◌≡◌, ◌||◌, Bool, true, false, IfOk, IfErr, OnErr};
+ghost use Rattle.std.specs.Prelude.{◌≡◌, ◌||◌, false, IfOk, IfErr};
 ghost use Rattle.swc_ast.specs.declared.errors.PassError.TheVariants.{OutOfMemory};
 ghost use Rattle.swc_pass.specs.Pass.{TellsChange};
 ghost use Rattle.std.proofs.Common.{ap₂};

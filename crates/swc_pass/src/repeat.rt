@@ -1,7 +1,6 @@
 //! A pass that runs until it changes nothing.
-ghost use Rattle.std.specs.Prelude.{◌≡◌, ◌<◌, ◌≤◌, ◌+◌, ◌↔◌, ℕ, Bool, true, false, if◌then◌else◌, IfOk, IfErr, IsTrue, OnErr};
+ghost use Rattle.std.specs.Prelude.{◌≡◌, ◌<◌, ◌+◌, ◌↔◌, ℕ, true, false, if◌then◌else◌, IfOk, IfErr, IsTrue, OnErr};
 ghost use Rattle.swc_ast.specs.Modules.{module_tree, script_tree};
-ghost use Rattle.swc_ast.specs.Weight.{weight};
 ghost use Rattle.swc_ast.specs.declared.errors.PassError.TheVariants.{OutOfMemory};
 ghost use Rattle.std.proofs.Common.{ap₂};
 ghost use Rattle.swc_pass.specs.Pass.{TellsChange, Folds, NothingTold};

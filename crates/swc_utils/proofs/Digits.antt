@@ -1,6 +1,6 @@
 -- Numbers that digits spell, where they stay within the core.
 use Rattle.std.proofs.Common.{◌≡◌, ℕ, suc, ◌+◌, ◌-◌, ◌*◌, ◌<◌, Bool, true, false, if◌then◌else◌, List, [], ◌∷◌, length, drop, get_or, Option, Some, None, refl, sym, ap, ◌∙◌, arith}
-use Rattle.swc_ast.specs.Operators.{greatest, is_digit, digits_value, if_some, of_digits, Numeric}
+use Rattle.swc_ast.specs.Operators.{greatest, is_digit, digits_value}
 use Rattle.swc_utils.specs.Digits.{capped, digits_spelled}
 use Rattle.std.proofs.Math.Seq.{drop-cons}
 
@@ -14,21 +14,6 @@ if_digit false o h = refl
 pub too_large : (n : ℕ) (cs : List ℕ) → greatest < n → capped (digits_value n cs) ≡ None
 too_large n [] h = cap_one n h
 too_large n (c ∷ cs) h = if_digit (is_digit c) (digits_value (10 * n + (c - 48)) cs) (too_large (10 * n + (c - 48)) cs (omega arith))
-
-split : (f : ℕ → Option Numeric) (cs : List ℕ) → of_digits f cs ≡ if_some (digits_spelled cs) f
-split f [] = refl
-split f (c ∷ cs) = refl
-
--- a function of numbers that knows nothing past the core
-abbrev Bounded : (ℕ → Option Numeric) → Type 0
-Bounded f = (n : ℕ) → if_some (capped (Some n)) f ≡ f n
-
-capped_alike : (f : ℕ → Option Numeric) (o : Option ℕ) → Bounded f → if_some (capped o) f ≡ if_some o f
-capped_alike f None b = refl
-capped_alike f (Some n) b = b n
-
-pub of_capped : (f : ℕ → Option Numeric) (cs : List ℕ) (o : Option ℕ) → Bounded f → o ≡ capped (digits_spelled cs) → if_some o f ≡ of_digits f cs
-of_capped f cs o b is = ap (λ p. if_some p f) is ∙ capped_alike f (digits_spelled cs) b ∙ sym (split f cs)
 
 started : (xs : List ℕ) (i : ℕ) → i < length xs → digits_value 0 xs ≡ digits_spelled xs
 started [] i h = absurd (omega (arith, h))

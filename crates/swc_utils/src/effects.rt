@@ -4,7 +4,7 @@ ghost use Rattle.swc_ast.specs.Tree.{ε, ◌⊳◌};
 ghost use Rattle.swc_ast.specs.Parts.{list_trees};
 ghost use Rattle.swc_ast.specs.Scope.{joined};
 ghost use Rattle.swc_ast.specs.Expressions.{item_kind, item_trees, key_tree, shorthand_tree};
-ghost use Rattle.swc_ast.specs.Views.{expr_tree, prop_or_spread_tree, prop_tree};
+ghost use Rattle.swc_ast.specs.Views.{expr_tree, prop_or_spread_tree};
 ghost use Rattle.swc_ast.specs.declared.errors.PassError.TheVariants.{OutOfMemory};
 ghost use Rattle.swc_utils.specs.Globals.{unresolved};
 ghost use Rattle.swc_utils.specs.Pure.{has_spread as kinds_have_spread};

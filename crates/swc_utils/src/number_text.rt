@@ -1,7 +1,7 @@
 //! The number that a text stands for. ECMA-262, 7.1.4.1, for plain decimal numbers.
-ghost use Rattle.std.specs.Prelude.{◌≡◌, string_bytes};
+ghost use Rattle.std.specs.Prelude.{◌≡◌};
 ghost use Rattle.swc_ast.specs.Operators as operators;
-ghost use Rattle.swc_ast.specs.Operators.{whole, negative_whole, of_digits, if_some, numeric_text, text_to_number};
+ghost use Rattle.swc_ast.specs.Operators.{whole, negative_whole, of_digits, numeric_text, text_to_number};
 ghost use Rattle.std.specs.Prelude.{pos};
 ghost use Rattle.swc_utils.specs.Sound.{known_number};
 ghost use Rattle.swc_utils.specs.Digits.{capped, digits_spelled};

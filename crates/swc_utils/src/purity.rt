@@ -3,7 +3,7 @@ ghost use Rattle.std.specs.Prelude.{◌≡◌, not, ◌&&◌, map};
 ghost use Rattle.swc_ast.specs.Parts.{list_trees};
 ghost use Rattle.swc_ast.specs.Tree.{ε, ◌⊳◌};
 ghost use Rattle.swc_ast.specs.Expressions.{item_kind, item_trees, key_tree, param_tree};
-ghost use Rattle.swc_ast.specs.Views.{expr_tree, stmt_tree, prop_or_spread_tree, prop_tree, arrow_body_tree, function_trees};
+ghost use Rattle.swc_ast.specs.Views.{expr_tree, stmt_tree, prop_or_spread_tree, arrow_body_tree, function_trees};
 ghost use Rattle.swc_utils.specs.Globals.{unresolved};
 ghost use Rattle.swc_utils.specs.Pure.{pure, pure_all, has_spread, no_trees, is_empty_body, does_nothing, is_pure_callee as callee_is_pure};
 ghost use Rattle.swc_utils.specs.Sound.{purity};

@@ -1,5 +1,5 @@
 //! What is known of the text of an expression's value. ECMA-262, 7.1.17.
-ghost use Rattle.std.specs.Prelude.{◌≡◌, IfOk, map, true, string_bytes};
+ghost use Rattle.std.specs.Prelude.{◌≡◌, IfOk, map, true};
 ghost use Rattle.swc_ast.specs.declared.UnaryOp.TheVariants.{Bang};
 ghost use Rattle.swc_ast.specs.Operators.{to_text};
 ghost use Rattle.swc_ast.specs.Value.{Truth};

@@ -1,5 +1,5 @@
 //! How heavy a tree is.
-ghost use Rattle.std.specs.Prelude.{◌≡◌, ◌-◌, ◌^◌, ◌+◌, ◌*◌, min, map, if◌then◌else◌};
+ghost use Rattle.std.specs.Prelude.{◌≡◌, ◌-◌, ◌^◌, min, map, if◌then◌else◌};
 ghost use Rattle.swc_ast.specs.Expressions.{item_kind};
 ghost use Rattle.swc_ast.specs.Modules.{module_tree, script_tree};
 ghost use Rattle.swc_ast.specs.Tree.{While, For};

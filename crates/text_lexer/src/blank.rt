@@ -1,5 +1,5 @@
 //! What stands between tokens: white space, line breaks and comments.
-ghost use Rattle.std.specs.Prelude.{◌≤◌, length};
+ghost use Rattle.std.specs.Prelude.{length};
 
 /// White space or a comment: how many bytes, and whether a line ends in it.
 #[derive(Clone, Copy)]

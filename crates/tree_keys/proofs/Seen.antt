@@ -66,7 +66,3 @@ new_key xs i x s u v k g within at is new more l made = record {
   has = λ t. ap (λ z. has_key z t) made ∙ more t ∙ ap (λ b. bytes_eq t k || b) (l.has t);
   rest = sym (in_front xs i x s k true l.seen within at is new l.has) ∙ l.rest;
 }
-
--- a property whose key was seen
-pub old_key : (xs : List PropOrSpread) (i : ℕ) (x : PropOrSpread) (s : KeySet) (k : Text) (g : Bool) → i < length xs → x ≡ get_or xs i x → key_of (prop_or_spread_tree x) ≡ Some k → false ≡ not (has_key s k) → Left s (drop i xs) g → false ≡ g
-old_key xs i x s k g within at is old l = sym (in_front xs i x s k false l.seen within at is old l.has) ∙ l.rest

@@ -1,7 +1,7 @@
 //! What an expression is and what its children are.
 #![tactic(auto, unfolding(crate::specs::Nodes::children_forest))]
 
-ghost use Rattle.std.specs.Prelude.{◌≡◌, []};
+ghost use Rattle.std.specs.Prelude.{[]};
 ghost use Rattle.swc_ast.specs.Tree.{node, Unary, ε, ◌⊳◌};
 ghost use Rattle.swc_ast.specs.Expressions.{key_tree, member_tree, param_tree, unary_tree, update_tree, assign_tree, call_tree};
 ghost use Rattle.swc_ast.specs.Parts.{lit_tree};

@@ -1,7 +1,6 @@
 //! What a statement and a declaration are and what their children are.
 #![tactic(auto, unfolding(crate::specs::Nodes::children_forest))]
 
-ghost use Rattle.std.specs.Prelude.{◌≡◌};
 ghost use Rattle.swc_ast.specs.Statements.{declarator_tree, var_tree, try_tree};
 ghost use Rattle.swc_ast.specs.Views.{expr_tree, stmt_tree, decl_tree, if_tree, switch_tree, for_tree};
 ghost use Rattle.tree_visit.specs.Nodes.{Opens};

@@ -66,9 +66,6 @@ mutual
 pub shallow_inside : (X : Pass) (t : Tree) → is_shallow t ≡ true → Inside X false t t
 shallow_inside X (node l ss ts) h = parts (and_left (walks_each l) (are_unvisited ts) h) (all_unvisited X ts (and_right (walks_each l) (are_unvisited ts) h))
 
-pub shallow_entered : (X : Pass) (t : Tree) → is_shallow t ≡ true → Entered X false t t
-shallow_entered X t h = inside_entered (shallow_inside X t h)
-
 -- the same of what is made of a variant
 pub unvisited_at : {N : Type 0} (X : Pass) (f : N → Tree) {e : N} {t : Tree} → f e ≡ t → is_unvisited t ≡ true → Walks X false (f e) (f e)
 unvisited_at X f {e} {t} is h = walks_unvisited X (f e) (ap is_unvisited is ∙ h)
@@ -181,9 +178,6 @@ two_children h k = both h (one_child k)
 pub each_list : {N : Type 0} {X : Pass} {f : N → Tree} {xs ys : List N} {c : Bool} → Each (λ x y d. Walks X d (f x) (f y)) xs ys c → AllWalk X c (list_trees f xs) (list_trees f ys)
 each_list none = nothing
 each_list (more w rest) = both w (each_list rest)
-
-each_itself : {N : Type 0} (P : N → N → Bool → Type 0) (c d : Bool) (xs ys : List N) → Each P xs ys c → c ≡ d → Each P xs ys d
-each_itself P c d xs ys h e = subst (λ k. Each P xs ys k) e h
 
 pub each_append : {N : Type 0} (P : N → N → Bool → Type 0) {xs ys : List N} {x y : N} {c d : Bool} → Each P xs ys c → P x y d → Each P (xs ++ x ∷ []) (ys ++ y ∷ []) (c || d)
 each_append P {xs} {ys} {x} {y} {c} {d} none p = subst (λ k. Each P (x ∷ []) (y ∷ []) k) (or_none d) (more p none)

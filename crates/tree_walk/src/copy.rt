@@ -1,5 +1,5 @@
 //! A walk over a copy.
-ghost use Rattle.std.specs.Prelude.{◌≡◌, IfOk};
+ghost use Rattle.std.specs.Prelude.{IfOk};
 ghost use Rattle.swc_ast.specs.Modules.{module_tree};
 ghost use Rattle.tree_walk.specs.Walks.{WholeMade};
 

@@ -1,5 +1,5 @@
 //! What a pass does at a node: before the node's children are walked, and behind that.
-ghost use Rattle.std.specs.Prelude.{◌≡◌, ◌≤◌, IfOk, IsFalse};
+ghost use Rattle.std.specs.Prelude.{◌≤◌, IfOk, IsFalse};
 ghost use Rattle.swc_ast.specs.Expressions.{param_tree};
 ghost use Rattle.swc_ast.specs.Modules.{item_tree};
 ghost use Rattle.swc_ast.specs.Parts.{list_trees};

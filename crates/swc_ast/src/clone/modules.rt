@@ -1,5 +1,5 @@
 //! Copies of modules and scripts.
-ghost use Rattle.std.specs.Prelude.{◌≡◌, IfOk, map};
+ghost use Rattle.std.specs.Prelude.{◌≡◌, IfOk};
 ghost use Rattle.swc_ast.specs.Modules.{import_specifier_tree, import_tree, export_specifier_tree, named_export_tree, export_decl_tree, export_default_fn_tree, export_default_expr_tree, module_decl_tree, item_tree, module_tree, script_tree};
 ghost use Rattle.swc_ast.specs.declared.modules.ImportSpecifier.TheVariants.{Named, Default, Namespace};
 

@@ -1,5 +1,5 @@
 //! The walk over expressions and functions.
-ghost use Rattle.std.specs.Prelude.{◌≡◌, IfOk};
+ghost use Rattle.std.specs.Prelude.{IfOk};
 ghost use Rattle.swc_ast.specs.Expressions.{member_tree, key_tree, param_tree};
 ghost use Rattle.swc_ast.specs.Views.{expr_tree, prop_or_spread_tree, prop_tree, method_tree, function_trees, arrow_tree, arrow_body_tree};
 ghost use Rattle.tree_walk.specs.Walks.{Inside, Made, Placed, Each};

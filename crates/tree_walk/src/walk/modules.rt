@@ -1,9 +1,7 @@
 //! The walk over modules and scripts.
-ghost use Rattle.std.specs.Prelude.{◌≡◌, IfOk};
-ghost use Rattle.swc_ast.specs.Views.{expr_tree, function_trees};
+ghost use Rattle.std.specs.Prelude.{IfOk};
 ghost use Rattle.swc_ast.specs.Modules.{item_tree, module_decl_tree, module_tree, script_tree};
 ghost use Rattle.tree_walk.specs.Walks.{Made, Ready, WholeMade, Each};
-ghost use Rattle.tree_walk.specs.StatementParts.{FunctionWalks};
 
 use crate::rules::{ListPlace, Place, Rules};
 use crate::walk::expressions::{walk_boxed, walk_boxed_function};

@@ -1,5 +1,5 @@
 //! The walk over statements and declarations.
-ghost use Rattle.std.specs.Prelude.{◌≡◌, IfOk};
+ghost use Rattle.std.specs.Prelude.{IfOk};
 ghost use Rattle.swc_ast.specs.Expressions.{body_tree};
 ghost use Rattle.swc_ast.specs.Statements.{block_tree, option_block_tree, option_init_tree, init_tree, var_tree};
 ghost use Rattle.swc_ast.specs.Views.{expr_tree, stmt_tree, decl_tree, if_tree, switch_tree, case_trees, loop_trees, for_tree};

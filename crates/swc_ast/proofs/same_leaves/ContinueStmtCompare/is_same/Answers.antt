@@ -1,7 +1,7 @@
 use Rattle.std.proofs.Common.{◌∙◌, ◌∷◌}
 use Rattle.swc_ast.specs.Same.{same, same_label}
 use Rattle.swc_ast.specs.Tree as tree
-use Rattle.swc_ast.specs.Tree.{node, ε, ◌⊳◌}
+use Rattle.swc_ast.specs.Tree.{node, ε}
 use Rattle.swc_ast.specs.Parts.{option_word_text, option_word_spans}
 use Rattle.swc_ast.proofs.Joined.{joined-1, joined-2}
 use Rattle.swc_ast.proofs.SameParts.{two-at}
