@@ -100,13 +100,6 @@ module _ (p : Pass) (F : Facts) where
   value_alone Null ss = refl
   value_alone v ss = refl
 
-  value_unnamed : (v : Value) (ss : List Span) → is_name (value_tree v ss) ≡ false
-  value_unnamed (Num z) ss = refl
-  value_unnamed (TextValue t) ss = refl
-  value_unnamed (Truth b) ss = refl
-  value_unnamed Null ss = refl
-  value_unnamed v ss = refl
-
   read_alone : (y : Name) (ss : List Span) (us : Forest) (q : Put) → Free q → is_eval y ≡ false → is_bare_callee (replaced q (Read y) ss us) ≡ false
   read_alone y ss us nothing h e = e
   read_alone y ss us (a_name x) h e = h x refl

@@ -1,7 +1,6 @@
 //! The rules of the walk.
 ghost use Rattle.std.specs.Prelude.{◌≡◌, [], ◌∷◌, List, map, drop, IfOk, IfSome, IsNone};
 ghost use Rattle.swc_ast.specs.Parts.{ident_name};
-ghost use Rattle.swc_ast.specs.Views.{expr_tree};
 ghost use Rattle.carry_rules.specs.Carry as carry;
 ghost use Rattle.link_proofs.specs.Links as links;
 ghost use Rattle.tree_put.specs.Answers.{answer_of};

@@ -1,5 +1,5 @@
 //! What a module or a script becomes.
-ghost use Rattle.std.specs.Prelude.{◌≡◌, map, OnOk};
+ghost use Rattle.std.specs.Prelude.{map, OnOk};
 ghost use Rattle.carry_parts.specs.Carries.{pass_of, puts_of};
 ghost use Rattle.carry_puts.specs.Values.{IsPut};
 

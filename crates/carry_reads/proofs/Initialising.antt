@@ -1,5 +1,5 @@
 -- What initialisers carry.
-use Rattle.std.proofs.Common.{◌≡◌, true, false, List, Option, Some, refl, sym, ap, ap₂, ◌∙◌}
+use Rattle.std.proofs.Common.{◌≡◌, false, List, Option, Some, refl, sym, ap, ap₂, ◌∙◌}
 use Rattle.std.proofs.lemmas.Bool.{true≢false}
 use Rattle.swc_ast.specs.declared.Span.{Span}
 use Rattle.std.specs.declared.alloc.Global.{Global}

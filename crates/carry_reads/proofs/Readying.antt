@@ -64,9 +64,6 @@ adds_as {v} {u} {w} {more} {most} same a = record {
   names = a.names;
 }
 
-pub adds_covers : {v : Vars} {u w : Scoped} {more : Name → Bool} → Covers v (names_in u) → Adds v u w more → Covers v (names_in w)
-adds_covers c a x i = a.names x ∙ c x i
-
 -- one steady name
 pub one_added : (v : Vars) (u w : Scoped) (y : Name) → Covers v (names_in u) → steady_of v y ≡ true → ((x : Name) → item_of w x ≡ option_map (λ t. if same_name y x then 1 else t) (item_of u x)) → Keeps u w → Adds v u w (λ x. same_name x y)
 one_added v u w y covers steady made keeps = record {

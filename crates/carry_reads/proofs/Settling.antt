@@ -1,7 +1,7 @@
 -- What is carried of variables, by number.
 use Rattle.std.proofs.Common.{◌≡◌, ℕ, zero, suc, ◌+◌, ◌<◌, ◌≤◌, Bool, true, false, List, [], ◌∷◌, ◌++◌, length, slice_get, Option, Some, None, refl, sym, ap, ◌∙◌, arith}
 use Rattle.std.proofs.lemmas.Bool.{false≢true, le-leb, lt-leb}
-use Rattle.std.proofs.lemmas.Option.{slice_get_past, same_Some}
+use Rattle.std.proofs.lemmas.Option.{same_Some}
 use Rattle.std.specs.Prelude.{nat_le, is_some, option_map, option_and_then, if◌then◌else◌}
 use Rattle.swc_ast.specs.Tree.{Name, same_name}
 use Rattle.link_proofs.specs.Links as links
@@ -31,22 +31,8 @@ none_next u within x = by (item_of u.numbers x) refl
 from_base : (cs : List (Option Carry)) (base n : ℕ) → base ≤ n → numbered cs base (Some n) ≡ puts_of (option_and_then (λ o. o) (slice_get cs n))
 from_base cs base n h = ap (λ b. if b then puts_of (option_and_then (λ o. o) (slice_get cs n)) else nothing) (le-leb base n h)
 
--- what is looked up
-pub looked_up : (u : Settled) (base : ℕ) (x : Name) (n : ℕ) (o : Option Carry) → item_of u.numbers x ≡ Some n → base ≤ n → slice_get u.carries.items n ≡ Some o → puts_of o ≡ settled_of u base x
-looked_up u base x n o is h e = sym (ap (numbered u.carries.items base) is ∙ from_base u.carries.items base n h ∙ ap (λ r. puts_of (option_and_then (λ p. p) r)) e)
-
-pub unnumbered : (u : Settled) (base : ℕ) (x : Name) → item_of u.numbers x ≡ None → nothing ≡ settled_of u base x
-unnumbered u base x is = sym (ap (numbered u.carries.items base) is)
-
 pub in_front : (u : Settled) (base : ℕ) (x : Name) (n : ℕ) → item_of u.numbers x ≡ Some n → n < base → nothing ≡ settled_of u base x
 in_front u base x n is h = sym (ap (numbered u.carries.items base) is ∙ below_base u.carries.items base n h)
-
-pub past_end : (u : Settled) (base : ℕ) (x : Name) (n : ℕ) → item_of u.numbers x ≡ Some n → length u.carries.items ≤ n → nothing ≡ settled_of u base x
-past_end u base x n is h = sym (ap (numbered u.carries.items base) is ∙ by (nat_le base n))
-  where
-    by : (b : Bool) → (if b then puts_of (option_and_then (λ o. o) (slice_get u.carries.items n)) else nothing) ≡ nothing
-    by true = ap (λ r. puts_of (option_and_then (λ p. p) r)) (slice_get_past u.carries.items n h)
-    by false = refl
 
 -- something is carried already
 

@@ -1,5 +1,5 @@
 //! Variables that are settled.
-ghost use Rattle.std.specs.Prelude.{◌≡◌, ◌≤◌, ℕ, true, [], ◌∷◌, None, IfOk, OnOk, length, option_map, position};
+ghost use Rattle.std.specs.Prelude.{◌≡◌, ◌≤◌, true, [], ◌∷◌, None, IfOk, OnOk, length, option_map, position};
 ghost use Rattle.swc_ast.specs.Parts.{ident_name};
 ghost use Rattle.swc_ast.specs.Tree.{Name, same_name};
 ghost use Rattle.carry_rules.specs.Carry.{with_put};

@@ -1,5 +1,5 @@
 -- The first fault of a node, of nodes in a row, and of a module.
-use Rattle.std.proofs.Common.{◌≡◌, ◌≤◌, ◌<◌, ◌+◌, ◌*◌, ℕ, zero, suc, true, false, List, [], ◌∷◌, ◌++◌, drop, if◌then◌else◌, Option, Some, None, is_some, refl, sym, ap, ◌∙◌, arith}
+use Rattle.std.proofs.Common.{◌≡◌, ◌≤◌, ◌<◌, ◌+◌, ◌*◌, ℕ, zero, suc, false, List, [], ◌∷◌, ◌++◌, drop, if◌then◌else◌, Option, Some, None, is_some, refl, sym, ap, ◌∙◌, arith}
 use Rattle.std.proofs.lemmas.Bool.{false≢true}
 use Rattle.swc_ast.specs.Tree.{Name, Label, Tree, node, Forest, ε, ◌⊳◌, label_of, children_of}
 use Rattle.swc_ast.specs.declared.errors.PassError.{PassError}
@@ -16,11 +16,6 @@ nothing : (o : Option rust.Fault) (xs : List Fault) → told o ≡ first_of xs �
 nothing None [] e h = refl
 nothing None (x ∷ xs) e h = absurd (false≢true (ap is_some e))
 nothing (Some f) xs e h = absurd (false≢true (sym h))
-
-pub stops : (o : Option rust.Fault) (xs ys : List Fault) → told o ≡ first_of xs → is_some o ≡ true → told o ≡ first_of (xs ++ ys)
-stops None xs ys e h = absurd (false≢true h)
-stops (Some f) [] ys e h = absurd (false≢true (sym (ap is_some e)))
-stops (Some f) (x ∷ xs) ys e h = e
 
 pub passes : (o : Option rust.Fault) (xs ys : List Fault) → told o ≡ first_of xs → is_some o ≡ false → first_of (xs ++ ys) ≡ first_of ys
 passes o xs ys e h = ap (λ zs. first_of (zs ++ ys)) (nothing o xs e h)
@@ -48,16 +43,8 @@ module _ (has : Has) (role : Name → Role) where
   fewer (suc n) ε = refl
   fewer (suc n) (t ⊳ ts) = fewer n ts
 
-  -- what is deleted
-  pub deleted : (t : Tree) (l : Label) (cs : Forest) → label_of t ≡ l → children_of t ≡ cs → is_delete l ≡ true → None ≡ first_of (use_faults has role t)
-  deleted t l cs labelled held is = ap first_of (sym (split_as t l cs labelled held ∙ ap (λ b. if b then [] else (seen_at has role l cs).own ++ joined (drop (seen_at has role l cs).skipped (each_faults has role cs))) is))
-
   entered : (t : Tree) (l : Label) (cs : Forest) → label_of t ≡ l → children_of t ≡ cs → is_delete l ≡ false → use_faults has role t ≡ (seen_at has role l cs).own ++ joined (drop (seen_at has role l cs).skipped (each_faults has role cs))
   entered t l cs labelled held is = split_as t l cs labelled held ∙ ap (λ b. if b then [] else (seen_at has role l cs).own ++ joined (drop (seen_at has role l cs).skipped (each_faults has role cs))) is
-
-  -- its own fault
-  pub own_first : (t : Tree) (l : Label) (cs : Forest) (o : Option rust.Fault) → label_of t ≡ l → children_of t ≡ cs → is_delete l ≡ false → told o ≡ first_of (seen_at has role l cs).own → is_some o ≡ true → told o ≡ first_of (use_faults has role t)
-  own_first t l cs o labelled held is own some = stops o (seen_at has role l cs).own (joined (drop (seen_at has role l cs).skipped (each_faults has role cs))) own some ∙ ap first_of (sym (entered t l cs labelled held is))
 
   -- the fault of a child
   pub child_first : (t : Tree) (l : Label) (cs rs : Forest) (o p : Option rust.Fault) → label_of t ≡ l → children_of t ≡ cs → is_delete l ≡ false → told o ≡ first_of (seen_at has role l cs).own → is_some o ≡ false → rs ≡ without_first (seen_at has role l cs).skipped cs → told p ≡ first_of (joined (each_faults has role rs)) → told p ≡ first_of (use_faults has role t)
@@ -65,12 +52,6 @@ module _ (has : Has) (role : Name → Role) where
       ∙ sym (passes o (seen_at has role l cs).own (joined (drop (seen_at has role l cs).skipped (each_faults has role cs))) own none) ∙ ap first_of (sym (entered t l cs labelled held is))
 
   -- nodes in a row
-
-  pub found_among : (t : Tree) (ts us : Forest) (o : Option rust.Fault) (h : Option Fault) → us ≡ t ⊳ ts → told o ≡ first_of (use_faults has role t) → is_some o ≡ true → first_of (joined (each_faults has role us)) ≡ h → told o ≡ h
-  found_among t ts us o h is own some found = stops o (use_faults has role t) (joined (each_faults has role ts)) own some ∙ sym (ap (λ vs. first_of (joined (each_faults has role vs))) is) ∙ found
-
-  pub goes_on : (t : Tree) (ts us : Forest) (o : Option rust.Fault) (h : Option Fault) → us ≡ t ⊳ ts → told o ≡ first_of (use_faults has role t) → is_some o ≡ false → first_of (joined (each_faults has role us)) ≡ h → first_of (joined (each_faults has role ts)) ≡ h
-  goes_on t ts us o h is own none found = sym (passes o (use_faults has role t) (joined (each_faults has role ts)) own none) ∙ sym (ap (λ vs. first_of (joined (each_faults has role vs))) is) ∙ found
 
   pub ends : (us : Forest) (h : Option Fault) → us ≡ ε → first_of (joined (each_faults has role us)) ≡ h → None ≡ h
   ends us h is found = sym (ap (λ vs. first_of (joined (each_faults has role vs))) is) ∙ found
@@ -84,6 +65,3 @@ fewer_smaller (suc n) (t ⊳ ts) = let h = fewer_smaller n ts in omega (arith, h
 
 pub children_fall : (t : Tree) (cs rs : Forest) (n : ℕ) → children_of t ≡ cs → rs ≡ without_first n cs → forest_size rs * 2 + 1 < tree_size t * 2
 children_fall t cs rs n is rest = let smaller = opened_smaller t cs is in let fewer = fewer_smaller n cs in omega (arith, smaller, fewer, ap forest_size rest)
-
-pub child_falls : (t : Tree) (ts us cs : Forest) → us ≡ t ⊳ ts → forest_size us ≤ forest_size cs → tree_size t * 2 < forest_size cs * 2 + 1
-child_falls t ts us cs is h = omega (arith, ap forest_size is, h)

@@ -1,6 +1,6 @@
 -- The locals of one text tell all of a name of this text.
 use Rattle.std.proofs.Common.{◌≡◌, ℕ, Bool, true, false, ◌&&◌, ◌==◌, cond, List, [], ◌∷◌, ◌++◌, if◌then◌else◌, bytes_eq, Option, Some, None, option_map, HashMap, refl, sym, ap, ◌∙◌}
-use Rattle.std.proofs.lemmas.List.{append_assoc, map-append}
+use Rattle.std.proofs.lemmas.List.{map-append}
 use Rattle.std.proofs.lemmas.Map.Text.{hash_map_updates_str}
 use Rattle.std.proofs.lemmas.Slice.Eq.{bytes_eq-Decides}
 use Rattle.std.specs.Borrow.{Bor}
@@ -48,11 +48,6 @@ module _ {V : Type 0} (value : Text → Text → Option V) where
       by h false e = h ∙ sym (ap (λ b. or_value (own (b && (l.name.context == x.context))) (member_in value ls x m)) e)
 
 -- the table
-
--- one more local
-pub group_step : (b : Bool) (old rest new g : List Local) (l : Local) → new ≡ (if b then old ++ l ∷ [] else old) → old ++ (if b then l ∷ rest else rest) ≡ g → new ++ rest ≡ g
-group_step true old rest new g l made h = ap (λ ys. ys ++ rest) made ∙ append_assoc old (l ∷ []) rest ∙ h
-group_step false old rest new g l made h = ap (λ ys. ys ++ rest) made ∙ h
 
 module _ {S : Type 0} (m n : HashMap (Bor (List ℕ)) (Vec rust.Local Global) S) (bs t : Text) where
   -- the locals of a text are taken out

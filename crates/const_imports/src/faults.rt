@@ -1,8 +1,8 @@
 //! Why a module with imports of given modules is refused.
-ghost use Rattle.std.specs.Prelude.{◌≡◌, ◌⊎◌, ◌++◌, Some, IfOk, IfErr, IfNone, IfSome, OnOk, option_map};
+ghost use Rattle.std.specs.Prelude.{◌≡◌, ◌⊎◌, ◌++◌, Some, IfOk, IfSome, option_map};
 ghost use Rattle.swc_ast.specs.Redex.{is_delete};
 ghost use Rattle.swc_ast.specs.Tree.{label_of};
-ghost use Rattle.swc_ast.specs.Modules.{item_tree, module_tree};
+ghost use Rattle.swc_ast.specs.Modules.{item_tree};
 ghost use Rattle.swc_ast.specs.Parts.{list_trees, ident_name};
 ghost use Rattle.swc_ast.specs.declared.errors.PassError.TheVariants as error;
 ghost use Rattle.tree_visit.specs.Kinds.{kind_label};

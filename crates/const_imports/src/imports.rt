@@ -1,11 +1,11 @@
 //! The names that imports of given modules bind.
-ghost use Rattle.std.specs.Prelude.{◌≡◌, ◌∷◌, ◌++◌, [], IfOk, OnOk, string_bytes};
+ghost use Rattle.std.specs.Prelude.{◌≡◌, ◌∷◌, ◌++◌, [], IfOk, OnOk};
 ghost use Rattle.swc_ast.specs.Modules.{import_specifier_tree, import_tree, item_tree};
 ghost use Rattle.swc_ast.specs.Parts.{list_trees, ident_name, option_word_text};
 ghost use Rattle.swc_ast.specs.Run.{imported_text as text_imported};
 ghost use Rattle.swc_ast.specs.Tree.{same_name, label_of, children_of};
 ghost use Rattle.const_imports.specs.Locals as spec;
-ghost use Rattle.const_imports.specs.Locals.{own_role, role_in, specifier_locals, specifiers_locals, given_label, item_locals, locals};
+ghost use Rattle.const_imports.specs.Locals.{own_role, specifier_locals, specifiers_locals, given_label, item_locals, locals};
 ghost use Rattle.const_imports.specs.Views as view;
 ghost use Rattle.const_imports.specs.Views.{imported_of, locals_of};
 

@@ -1,5 +1,5 @@
 //! What names stand for, by their texts.
-ghost use Rattle.std.specs.Prelude.{◌≡◌, ◌∷◌, ◌++◌, [], if◌then◌else◌, bytes_eq, IfOk, OnOk, option_copied, string_bytes};
+ghost use Rattle.std.specs.Prelude.{◌≡◌, ◌∷◌, ◌++◌, [], if◌then◌else◌, bytes_eq, IfOk, OnOk, option_copied};
 ghost use Rattle.swc_ast.specs.Parts.{ident_name};
 ghost use Rattle.swc_ast.specs.Tree.{Text};
 ghost use Rattle.const_imports.specs.Locals.{export_name, role_in};

@@ -1,5 +1,5 @@
 -- What is read of an expression, by its form.
-use Rattle.std.proofs.Common.{◌≡◌, ℕ, true, false, ◌==◌, Option, Some, None, option_map, option_copied, refl, sym, ap, ap₂, ◌∙◌}
+use Rattle.std.proofs.Common.{◌≡◌, ℕ, false, ◌==◌, Option, Some, None, option_map, option_copied, refl, sym, ap, ap₂, ◌∙◌}
 use Rattle.std.proofs.lemmas.Bool.{true≢false}
 use Rattle.std.specs.Borrow.{Bor}
 use Rattle.swc_ast.specs.Expressions.{member_node, member_tree}

@@ -1,7 +1,6 @@
 //! The pass.
 ghost use Rattle.std.specs.Prelude.{◌≡◌, ◌⊎◌, false, IfOk, IfErr, OnErr};
 ghost use Rattle.swc_ast.specs.Modules.{module_tree, script_tree};
-ghost use Rattle.swc_ast.specs.Views.{expr_tree};
 ghost use Rattle.swc_ast.specs.declared.errors.PassError.TheVariants.{OutOfMemory};
 ghost use Rattle.swc_pass.specs.Pass.{TellsChange};
 ghost use Rattle.const_imports.specs.Views.{IsFirst};

@@ -6,7 +6,7 @@ use Rattle.swc_ast.specs.Tree.{Text, Name, Label, Tree, node, Forest, ε, ◌⊳
 use Rattle.swc_ast.specs.Scope.{is_function, has_name, param_names}
 use Rattle.swc_ast.specs.Run.{has_text}
 use Rattle.swc_ast.specs.Resolved.{params_of}
-use Rattle.swc_ast.specs.Reach.{named_by, occurs, declares, named_outside, is_closed, is_for}
+use Rattle.swc_ast.specs.Reach.{named_by, named_outside, is_closed, is_for}
 use Rattle.dce_rules.specs.Uses.{has_arguments, is_arguments, names_arguments, any_arguments, is_argument, argument_among, is_eval, calls_eval, any_eval, declared_among, seen_by_eval, eval_among, is_export_of, free_to_go}
 use Rattle.dce_rules.specs.Left.{declared_plainly, any_of, is_head, left_in, left_among, Entered, itself, further, EnteredAmong, in_first, in_rest, speaks_of_arguments, arguments_among, is_kept}
 

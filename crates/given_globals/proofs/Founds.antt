@@ -49,17 +49,11 @@ module _ (s : Settings) where
       by true = ap by_value (e ∙ sym (number_of_shape t (expressions s)))
       by false = refl
 
-  pub chain_inside : (t : Tree) → leads_outside (mark_of s.mark) t ≡ false → nothing ≡ by_expression (given_of s) (mark_of s.mark) t
-  chain_inside t l = sym (ap (λ b. if b then by_value ((given_of s).expression (shape t)) else nothing) l)
-
   -- a name
 
   pub name_found : (x : Ident) (o : Option ℕ) → o ≡ global_number s (string_bytes x.sym) → is_unresolved (mark_of s.mark) (ident_name x) ≡ true → by_value o ≡ by_name (given_of s) (mark_of s.mark) (ident_name x)
   unfolding given_of
   name_found x o e u = ap by_value e ∙ sym (ap (λ b. if b then by_value (global_number s (string_bytes x.sym)) else nothing) u)
-
-  pub name_bound : (x : Ident) → is_unresolved (mark_of s.mark) (ident_name x) ≡ false → nothing ≡ by_name (given_of s) (mark_of s.mark) (ident_name x)
-  name_bound x u = sym (ap (λ b. if b then by_value ((given_of s).global (string_bytes x.sym)) else nothing) u)
 
   -- a member
 
@@ -74,14 +68,6 @@ module _ (s : Settings) where
   member_written : (m : Span) (o : Expr) (p : MemberProp Expr) → by_part (given_of s) (mark_of s.mark) (member_node expr_tree m o p) ≡ by_written (written_key p) (expr_tree o)
   member_written m o (prop.Ident n) = refl
   member_written m o (prop.Computed n) = key_written (expr_tree o) (expr_tree n.expr.value)
-
-  -- its key isn't written out
-  pub member_unwritten : (m : Span) (o : Expr) (p : MemberProp Expr) → None ≡ written_key p → nothing ≡ by_part (given_of s) (mark_of s.mark) (member_node expr_tree m o p)
-  member_unwritten m o p e = ap (λ k. by_written k (expr_tree o)) e ∙ sym (member_written m o p)
-
-  -- its object is another
-  pub member_other : (m : Span) (o : Expr) (p : MemberProp Expr) (k : Text) → Some k ≡ written_key p → is_env (given_of s) (mark_of s.mark) (expr_tree o) ≡ false → nothing ≡ by_part (given_of s) (mark_of s.mark) (member_node expr_tree m o p)
-  member_other m o p k e b = sym (ap (λ c. if c then by_plain ((given_of s).env k) else nothing) b) ∙ ap (λ q. by_written q (expr_tree o)) e ∙ sym (member_written m o p)
 
   -- it is a member of `process.env`
   pub member_env : (m : Span) (o : Expr) (p : MemberProp Expr) (k : Text) (v : Option Tree) → Some k ≡ written_key p → is_env (given_of s) (mark_of s.mark) (expr_tree o) ≡ true → v ≡ option_map expr_tree (get_by_text s.envs.now k) → by_plain v ≡ by_part (given_of s) (mark_of s.mark) (member_node expr_tree m o p)

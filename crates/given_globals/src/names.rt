@@ -1,5 +1,5 @@
 //! The names that are told of values, by the numbers of the values.
-ghost use Rattle.std.specs.Prelude.{◌≡◌, ◌++◌, IfOk, map};
+ghost use Rattle.std.specs.Prelude.{◌≡◌, ◌++◌, IfOk};
 ghost use Rattle.std.specs.BTreeMap.{IsOrdered};
 ghost use Rattle.std.specs.String.{string_cmp};
 ghost use Rattle.swc_expr_map.specs.Entries.{name_at};

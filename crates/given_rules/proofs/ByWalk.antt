@@ -14,9 +14,8 @@ use Rattle.given_shield.specs.Shield.{is_bare_callee, guarded, shield}
 use Rattle.given_rules.specs.Formed.{formed}
 use Rattle.given_rules.specs.Met.{met, covers}
 use Rattle.given_rules.specs.Put.{here, callee, put}
-use Rattle.given_rules.specs.Walk.{put_answer, gathering}
+use Rattle.given_rules.specs.Walk.{put_answer}
 use Rattle.given_rules.specs.Worked.{Finals, Finished, finished, has_final, shielded, put_found, put_text, put_expression, puts, Worked}
-use Rattle.given_rules.proofs.Gathered.{gathers}
 use Rattle.given_rules.proofs.Instances.{AreExpressions, inlined_spanless, inline_same}
 use Rattle.given_rules.proofs.Covered.{Spanless}
 use Rattle.given_rules.proofs.Walked.{Told, walked}
@@ -90,12 +89,6 @@ module _ (a : Answers) (sp : Spanless a) (h : Finished) where
 module _ {given : Given} (x : AreExpressions given) (mark : ℕ) where
   abbrev A : Answers
   A = inlined given mark
-
-  -- what the first walk tells
-  pub met_by_walk : (t u : Tree) (p : Spot) (is : List ℕ) → formed t ≡ true → walk.put gathering t (A, []) p ≡ (u, (A, is)) → (u ≡ t) × (is ≡ met A t)
-  met_by_walk t u p is f e =
-      let q : (u, (A, is)) ≡ (t, (A, met A t)) = sym e ∙ gathers (inlined_spanless given mark) t [] p f in
-      (ap (λ r. r.0) q, ap (λ r. r.1.1) q)
 
   -- what the second walk puts
   pub same_by_walk : (run : ℕ) (fs : Finals) → Worked A shield fs → (t u : Tree) → IsWhole t → formed t ≡ true → covers (has_final fs) (met A t) ≡ true → walk.put (still put_answer) t (A, finished fs) here ≡ (u, (A, finished fs)) → SameGiven A run t u

@@ -158,9 +158,6 @@ module _ {a : Answers} (mark : ℕ) (h : Leaves a) (k : ℕ) (os : Owners) (e : 
   unfolding act_given
   type_unfolds x ss ts q r = unparted (TypeOfName x) ss ts (λ n call inner ms. part_written a mark n call inner q os (TypeOfName x) ms _ ∙ type_written a mark n call inner r _)
 
-  no_part : (l : Label) (ss : List Span) (cs : Forest) → ((n : ℕ) (call : Caller) (inner : Tree → Meaning) (ms : List Meaning) → act_given a mark n call inner l os (all_owned os cs) ms ≡ act mark n call l os (all_owned os cs) ms) → Unfolds mark (does a mark) (owned os (node l ss cs))
-  no_part = unparted
-
   dot_alone : (m : Text) (ss : List Span) → Unfolds mark (does a mark) (owned os (node (CallDot m) ss ε))
   unfolding act_given
   dot_alone m ss = unparted (CallDot m) ss ε (λ n call inner ms. refl)

@@ -1,5 +1,5 @@
 -- What a view of an expression is not, by the expression's form.
-use Rattle.std.proofs.Common.{◌≡◌, ℕ, pos, zero, true, false, refl, sym, ap, ◌∙◌, ◌==◌, ◌∷◌, []}
+use Rattle.std.proofs.Common.{◌≡◌, ℕ, pos, zero, false, refl, sym, ap, ◌∙◌, ◌==◌, ◌∷◌, []}
 use Rattle.std.proofs.lemmas.Bool.{true≢false}
 use Rattle.swc_ast.specs.Parts.{list_trees}
 use Rattle.swc_ast.specs.Tree as tree

@@ -1,7 +1,7 @@
 //! What may not stand bare where it is put.
 #![tactic(auto)]
 
-ghost use Rattle.std.specs.Prelude.{◌≡◌, IfOk, [], ◌∷◌};
+ghost use Rattle.std.specs.Prelude.{◌≡◌, IfOk};
 ghost use Rattle.swc_ast.specs.Expressions.{is_eval};
 ghost use Rattle.swc_ast.specs.Meaning.{is_host_name};
 ghost use Rattle.swc_ast.specs.Parts.{ident_name};

@@ -3,7 +3,6 @@ use Rattle.std.proofs.Common.{◌≡◌, ℕ, List, Option, refl}
 use Rattle.swc_ast.specs.declared.Span.{Span}
 use Rattle.swc_ast.specs.Tree.{Text, Block, Return, Throw, Break, Continue, Tree, node, Forest, ε, ◌⊳◌}
 use Rattle.swc_ast.specs.Value.{Value, State, Outcome, Done, Jumps, Outside, Cut, Run, and_then, Context}
-use Rattle.swc_ast.specs.Scope.{declared}
 use Rattle.swc_ast.specs.Meaning.{Caller, eval, evals, act, run_all, in_scope, in_list_scope}
 use Rattle.swc_ast.specs.Call.{call_at}
 use Rattle.meaning_proofs.specs.Exact.{ListExact, Stopped, stopped_jump, stopped_left, stopped_cut, Stops}

@@ -7,7 +7,7 @@ use Rattle.swc_ast.specs.declared.VarDeclKind.TheVariants.{Var, Let, Const}
 use Rattle.swc_ast.specs.Tree.{Name, same_name, ExprStmt, VarDecl, Declarator, Tree, node, Forest, ε, ◌⊳◌}
 use Rattle.swc_ast.specs.Value.{Value, Undefined, Cell, State, Outcome, Done, Jumps, Outside, Cut, Run, and_then, Context}
 use Rattle.swc_ast.specs.Scope.{Lexical, has_name}
-use Rattle.swc_ast.specs.Meaning.{gives, cell_at, set_cell, write, initialise, initialise_bound, initialise_cell, eval, evals, act, run_all, declare}
+use Rattle.swc_ast.specs.Meaning.{gives, cell_at, set_cell, initialise, initialise_bound, initialise_cell, eval, evals, act, run_all, declare}
 use Rattle.meaning_proofs.specs.Names.{Names, Counted, is_firm, is_known, Watched, is_kept, is_guarded}
 use Rattle.meaning_proofs.specs.Exact.{AlikeCells, run_at, Off, Trimmed, same_value, left_core, was_cut, Trims}
 use Rattle.meaning_proofs.specs.Roles.{holds_function, Fits, changed, SameNames}

@@ -1,8 +1,6 @@
 -- What a walk leaves that changed nothing.
-use Rattle.std.proofs.Common.{◌≡◌, Bool, false, refl, sym, subst, List}
-use Rattle.swc_ast.specs.Modules.{item_tree}
-use Rattle.swc_ast.specs.Tree.{Name, Tree}
-use Rattle.swc_ast.specs.declared.modules.ModuleItem.{ModuleItem}
+use Rattle.std.proofs.Common.{◌≡◌, Bool, false, sym, subst}
+use Rattle.swc_ast.specs.Tree.{Tree}
 use Rattle.tree_walk.specs.Pass.{Pass}
 use Rattle.tree_walk.specs.Walks.{Walks}
 use Rattle.tree_walk.proofs.Walked.{walks_same}

@@ -5,7 +5,7 @@ use Rattle.swc_ast.specs.declared.Span.{Span}
 use Rattle.swc_ast.specs.Tree.{Label, BoolLit, Absent, Param, Try, While, For, Tree, node, Forest}
 use Rattle.swc_ast.specs.Weight.{own_weight, test_weight, weight, weight_all, is_list, is_stopper, stays_behind, unreached, is_truth_or_absent}
 use Rattle.static_proofs.specs.Lighter.{base_weight, is_settled, Lowers, Weighed, AllWeighed, none_weighed, more_weighed}
-use Rattle.static_proofs.specs.Walks.{then, nothing, Leaves, AllLeave, closed, opened, stands, steps, none_left, more_left}
+use Rattle.static_proofs.specs.Walks.{then, Leaves, AllLeave, closed, opened, stands, steps, none_left, more_left}
 use Rattle.static_proofs.proofs.Lists.{sum_weighed, Listed, same_list, lower_list, new_stopper, list_weighed}
 
 own_same : {N : Type 0} (l : Label) {ts us : Forest} → AllWeighed N ts us → own_weight l us ≡ own_weight l ts

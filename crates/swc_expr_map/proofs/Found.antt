@@ -1,5 +1,5 @@
 -- What is found in entries in front of one and behind it.
-use Rattle.std.proofs.Common.{◌≡◌, ℕ, suc, ◌+◌, ◌<◌, ltb, Bool, true, false, not, cond, if◌then◌else◌, List, [], ◌∷◌, ◌++◌, length, Option, Some, None, option_map, refl, sym, ap, ◌∙◌, arith}
+use Rattle.std.proofs.Common.{◌≡◌, ℕ, suc, ◌+◌, ltb, Bool, true, false, not, cond, if◌then◌else◌, List, [], ◌∷◌, ◌++◌, length, Option, Some, None, option_map, refl, sym, ap, ◌∙◌, arith}
 use Rattle.std.proofs.lemmas.Bool.{lt-ltb, le-ltb, ltb-true, ltb-false}
 use Rattle.std.specs.List.{prefix_len}
 use Rattle.std.specs.Option.{unwrap_or}
@@ -84,13 +84,6 @@ number_behind t (e ∷ l) m n =
 within : (b : Bool) (p n : ℕ) → cond b (Some p) None ≡ Some n → (b ≡ true) × (p ≡ n)
 within true p n e = (refl, ap (λ o. unwrap_or o 0) e)
 within false p n e = cc
-
--- a number is below the count
-pub number_within : (t : Tree) (es : List Entry) (n : ℕ) → number_of t es ≡ Some n → n < length es
-number_within t es n e =
-    let p = prefix_len (λ d. not (has_key t d)) es in
-    let w = within (ltb p (length es)) p n e in
-    omega (arith, ltb-true p (length es) w.0, w.1)
 
 -- a key beside an entry in the midst of others
 module _ (t : Tree) (l : List Entry) (e : Entry) (r : List Entry) (round : Round l e r) where

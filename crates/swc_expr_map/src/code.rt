@@ -1,5 +1,5 @@
 //! What nodes are compared by, beside their children.
-ghost use Rattle.std.specs.Prelude.{◌≡◌, pos};
+ghost use Rattle.std.specs.Prelude.{◌≡◌};
 ghost use Rattle.swc_ast.specs.Parts.{ident_name, option_ident_name, option_word_text};
 ghost use Rattle.swc_ast.specs.Statements.{handler_param};
 ghost use Rattle.tree_visit.specs.Kinds.{kind_label};

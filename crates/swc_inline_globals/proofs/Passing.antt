@@ -1,7 +1,7 @@
 -- What the two walks make of a tree.
 use Rattle.std.proofs.Common.{◌≡◌, ℕ, zero, suc, true, List, [], ◌∷◌, length, Option, is_some, slice_get, refl, sym, ap, subst, ◌∙◌, arith}
 use Rattle.std.proofs.lemmas.Bool.{false≢true}
-use Rattle.swc_ast.specs.Tree.{Module, Script, Tree, node}
+use Rattle.swc_ast.specs.Tree.{Tree}
 use Rattle.swc_ast.specs.declared.expressions.Expr.{Expr}
 use Rattle.swc_pass.specs.Given.{Answers}
 use Rattle.tree_put.specs.Put as walk
@@ -19,7 +19,7 @@ use Rattle.given_rules.proofs.ByWalk as by_walk
 use Rattle.given_rules.proofs.Gathered.{gathers}
 use Rattle.given_globals.specs.Globals.{answers_of}
 use Rattle.given_globals.specs.declared.settings.Settings.{Settings}
-use Rattle.swc_inline_globals.specs.Made.{is_whole, IsMade}
+use Rattle.swc_inline_globals.specs.Made.{IsMade}
 use Rattle.swc_inline_globals.specs.Slots.{slots}
 use Rattle.swc_inline_globals.specs.Walking.{is_done, AreMade}
 use Rattle.swc_inline_globals.proofs.Founds.{given_spanless}
@@ -54,8 +54,3 @@ module _ (s : Settings) where
         known = λ i h. there xs (answers_of s).values i made.all (sym (has i) ∙ h);
         is = p ∙ ap (λ f. put (puts (answers_of s) shield f) here u) (sym made.made.is) ∙ ap (put (puts (answers_of s) shield (finished made.made.finals)) here) e;
       }
-
-pub whole_of : (t : Tree) → is_whole t ≡ true → by_walk.IsWhole t
-whole_of (node Module ss cs) e = by_walk.a_module
-whole_of (node Script ss cs) e = by_walk.a_script
-whole_of (node l ss cs) e = absurd (false≢true e)

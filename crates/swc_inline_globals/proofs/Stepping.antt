@@ -1,6 +1,5 @@
 -- Steps of the walk, by what their parts did.
 use Rattle.std.proofs.Common.{◌≡◌, ℕ, ◌+◌, ◌<◌, Bool, true, false, not, List, [], ◌∷◌, ◌++◌, length, set, count_by, Option, Some, None, is_some, Result, Ok, Err, OnOk, IfErr, slice_get, get_or, take, nat_lt, ltb-true, inl, inr, refl, sym, ap, subst, ◌∙◌, arith}
-use Rattle.std.proofs.lemmas.Bool.{false≢true}
 use Rattle.std.proofs.lemmas.Bool.Decides.{eqb_tells}
 use Rattle.std.proofs.lemmas.List.Elements.{All-pop}
 use Rattle.std.proofs.lemmas.Option.{slice_get-get_or, slice_get_within}
@@ -108,12 +107,6 @@ module _ (w : Walk) (st : Vec Frame Global) (f : Frame) (split : w.stack.items �
       subst (λ n. AllInRange n f.needs.items) (sym s.all)
       (subst (λ is. AllInRange (length (answers_of w.lookup.now.settings).values) is) (sym last_frame.needs) (met_in_range w.lookup.now.settings (value_at (answers_of w.lookup.now.settings).values f.number)))
 
-  pub last_ready : IsReady w.finals.items f
-  last_ready = (All-pop (IsReady w.finals.items) w.stack.items st.items (Some f) split s.ready).1
-
-  pub last_number : f.number < length w.finals.items
-  last_number = subst (λ n. f.number < n) (sym s.all) last_frame.in_range
-
 -- a need at a place
 
 unslot : (o : Option Expr) → is_some o ≡ false → is_some (slot_tree (Some o)) ≡ false
@@ -167,13 +160,6 @@ begins_begun w v i s h b =
     let all = s.all in
     let begun = s.all_begun in
     subst (λ bs. IsBegun bs i) (sym b.begun) (get_set_same w.begun.items i true (omega (arith, all, begun, h)))
-
--- where nothing is walked, what was begun is done
-pub settled_done : (v : Walk) (i : ℕ) → Stands v → v.stack.items ≡ [] → IsBegun v.begun.items i → is_done v.finals.items i ≡ true
-settled_done v i s e b = elim (s.begun i b) [
-  | inl d ↦ d
-  | inr m ↦ absurd (false≢true (subst (λ fs. is_among i (walked fs) ≡ true) e m))
-]
 
 -- one more value is done
 pub one_more_done : (xs ys : List (Option Expr)) (is : List ℕ) (k : ℕ) → Grows xs ys → AllDone xs (take k is) → k < length is → (i : ℕ) → i ≡ get_or is k i → is_done ys i ≡ true → AllDone ys (take (k + 1) is)

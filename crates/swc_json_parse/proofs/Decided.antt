@@ -40,9 +40,6 @@ greatest_enters least s (Some x) h = sym (ap (λ b. if b then (if nat_le least (
 pub none_enters : (least : ℕ) (s : Span) (q : Option Text) → q ≡ None → enter ≡ quick_call least (Some s) q
 none_enters least s q h = sym (ap (quick_call least (Some s)) h)
 
-pub no_literal_enters : (least : ℕ) (o : Option Span) (q : Option Text) → o ≡ None → enter ≡ quick_call least o q
-no_literal_enters least o q h = sym (ap (λ p. quick_call least p q) h)
-
 by_length : (least : ℕ) (s : Span) (q : Option Text) (x : Text) (b : Bool) → q ≡ Some x → least < 2 ^ 64 → (least ≡ 2 ^ 64 - 1 → ⊥) → nat_le least (length x) ≡ b → (if b then become (parse_call s x) else stay) ≡ quick_call least (Some s) q
 by_length least s q x b is below other h = sym (ap (quick_call least (Some s)) is ∙ ap₂ (λ a c. if a then (if c then become (parse_call s x) else stay) else enter) (smaller_holds least below other) h)
 

@@ -1,16 +1,12 @@
 -- What nodes are as JSON: those that are no literals, members, literals and templates.
-use Rattle.std.proofs.Common.{◌≡◌, ℕ, suc, ◌<◌, ◌^◌, pos, negsuc, ℤ, Bool, true, false, ◌||◌, ◌==◌, nat_le, nat_lt, List, [], ◌∷◌, map, length, get_or, ◌++◌, if◌then◌else◌, Option, Some, None, option_map, option_and_then, inl, inr, refl, sym, ap, ◌∙◌, string_bytes, arith}
+use Rattle.std.proofs.Common.{◌≡◌, ℕ, Bool, true, false, ◌||◌, ◌==◌, nat_le, List, [], ◌∷◌, map, length, ◌++◌, if◌then◌else◌, Option, Some, None, option_map, option_and_then, inl, inr, refl, sym, ap, ◌∙◌, string_bytes, arith}
 use Rattle.std.proofs.lemmas.Bool.{false≢true}
 use Rattle.std.proofs.lemmas.Bool.Decides.{leb_tells, eqb_tells}
-use Rattle.std.proofs.lemmas.Int.{ints}
-use Rattle.std.specs.Prelude.{FitsSigned}
-use Rattle.std.proofs.Common.{w64}
-use Rattle.std.specs.Fmt.{signed_decimal}
 use Rattle.json.specs.Print.{quoted}
-use Rattle.serde_json.specs.Data.{Num, unsigned, negative, number, depth}
+use Rattle.serde_json.specs.Data.{Num, number, depth}
 use Rattle.serde_json.specs.Written.{compact_text}
 use Rattle.swc_ast.specs.Tree as tree
-use Rattle.swc_ast.specs.Tree.{Text, Tree, node, Forest, label_of}
+use Rattle.swc_ast.specs.Tree.{Text, Tree, node, label_of}
 use Rattle.swc_ast.specs.Expressions.{key_value_tree, array_tree, object_tree, tpl_tree, quasi_text}
 use Rattle.swc_ast.proofs.Equations.{expr_tree-Lit, expr_tree-Tpl, expr_tree-Array, expr_tree-Object, prop_or_spread_tree-Spread, prop_or_spread_tree-Prop, prop_tree-KeyValue, prop_tree-Shorthand, prop_tree-Method, method_tree-is}
 use Rattle.swc_ast.specs.Parts.{lit_tree, list_trees}
@@ -39,7 +35,7 @@ use Rattle.swc_ast.specs.declared.literals.Lit.{Lit}
 use Rattle.swc_ast.specs.declared.literals.Lit.TheVariants as lit
 use Rattle.tree_keys.specs.Keys.{plain_key}
 use Rattle.swc_json_parse.specs.JsonText.{data_of, whole}
-use Rattle.swc_json_parse.specs.Written.{text_within, member_within, lit_text, number_text}
+use Rattle.swc_json_parse.specs.Written.{text_within, member_within, lit_text}
 
 -- a member by its key
 pub member_keyed : (levels : ℕ) (n : KeyValueProp Expr) → member_within levels (key_value_tree expr_tree n) ≡ option_and_then (λ k. option_map (λ x. quoted k ++ 58 ∷ x) (text_within levels (expr_tree n.value.value))) (plain_key n.key)
@@ -90,33 +86,6 @@ lit_within levels (lit.Str n) = ap (λ b. if b then Some (quoted (string_bytes n
 lit_within levels (lit.Bool n) = ap (λ b. if b then lit_text (lit.Bool n) else None) (zero_below levels)
 lit_within levels (lit.Null n) = ap (λ b. if b then lit_text (lit.Null n) else None) (zero_below levels)
 lit_within levels (lit.Num n) = flat (whole n.value) levels
-
-below_then : (n m : ℕ) → n < m → nat_lt n m ≡ true
-below_then n m h = elim (leb_tells (suc n) m) [ inl p ↦ p.0 | inr p ↦ absurd (omega (arith, p.1, h)) ]
-
--- a number that 64 bits hold has its decimal text
-pub number_written : (z : ℤ) → FitsSigned w64 z → number_text z ≡ Some (signed_decimal z)
-number_written (pos n) h = ap (λ b. option_map compact_text (option_map number (if b then Some (unsigned n) else None))) (below_then n (2 ^ 63) (omega (arith, ints, h)))
-number_written (negsuc n) h = ap (λ b. option_map compact_text (option_map number (if b then Some (negative (negsuc n)) else None))) (below_then n (2 ^ 63) (omega (arith, ints, h)))
-
-one_text : (levels : ℕ) (ss : List Span) (qs : List TplElement) (es : List Expr) (q : TplElement) → length qs ≡ 1 → length es ≡ 0 → q ≡ get_or qs 0 q → text_within levels (node (tree.Template (map quasi_text qs)) ss (list_trees expr_tree es)) ≡ Some (quoted (string_bytes q.cooked))
-one_text levels ss (p ∷ []) [] q one none at = ap (λ b. if b then Some (quoted (string_bytes p.cooked)) else None) (zero_below levels) ∙ ap (λ r. Some (quoted (string_bytes r.cooked))) (sym at)
-one_text levels ss (p ∷ []) (e ∷ es) q one none at = absurd (omega (arith, none))
-one_text levels ss [] es q one none at = absurd (omega (arith, one))
-one_text levels ss (p ∷ r ∷ qs) es q one none at = absurd (omega (arith, one))
-
--- a template with one text and no expressions
-pub template_text : (levels : ℕ) (n : Tpl Expr) (q : TplElement) → length n.quasis.items ≡ 1 → length n.exprs.items ≡ 0 → q ≡ get_or n.quasis.items 0 q → text_within levels (tpl_tree expr_tree n) ≡ Some (quoted (string_bytes q.cooked))
-template_text levels n q one none at = one_text levels _ n.quasis.items n.exprs.items q one none at
-
-not_one : (levels : ℕ) (ss : List Span) (qs : List TplElement) (cs : Forest) → (length qs ≡ 1 → ⊥) → text_within levels (node (tree.Template (map quasi_text qs)) ss cs) ≡ None
-not_one levels ss (p ∷ []) cs h = absurd (h refl)
-not_one levels ss [] cs h = refl
-not_one levels ss (p ∷ r ∷ qs) cs h = refl
-
--- a template with another number of texts
-pub template_parts : (levels : ℕ) (n : Tpl Expr) → (length n.quasis.items ≡ 1 → ⊥) → text_within levels (tpl_tree expr_tree n) ≡ None
-template_parts levels n h = not_one levels _ n.quasis.items _ h
 
 not_none : (levels : ℕ) (ss : List Span) (qs : List TplElement) (es : List Expr) → (length es ≡ 0 → ⊥) → text_within levels (node (tree.Template (map quasi_text qs)) ss (list_trees expr_tree es)) ≡ None
 not_none levels ss qs [] h = absurd (h refl)

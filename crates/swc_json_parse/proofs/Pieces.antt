@@ -1,7 +1,7 @@
 -- A text that is taken in pieces.
-use Rattle.std.proofs.Common.{◌≡◌, ℕ, ◌+◌, ◌<◌, ◌≤◌, Bool, true, false, List, [], ◌∷◌, ◌++◌, drop, length, get_or, Option, Some, None, option_map, Result, Ok, Err, IfOk, refl, sym, ap, subst, ◌∙◌}
+use Rattle.std.proofs.Common.{◌≡◌, ℕ, ◌+◌, ◌<◌, Bool, true, false, List, ◌∷◌, ◌++◌, drop, length, get_or, Option, Some, None, option_map, Result, Ok, Err, IfOk, refl, sym, ap, subst, ◌∙◌}
 use Rattle.std.proofs.lemmas.Bool.{false≢true}
-use Rattle.std.proofs.lemmas.List.{at_drop_more, at_drop_all}
+use Rattle.std.proofs.lemmas.List.{at_drop_more}
 use Rattle.std.specs.declared.alloc.AllocError.{AllocError}
 use Rattle.serde_json.specs.Written.{comma_if}
 use Rattle.swc_ast.specs.Parts.{list_trees}
@@ -11,7 +11,7 @@ use Rattle.swc_ast.specs.declared.expressions.Expr.{Expr}
 use Rattle.swc_ast.specs.declared.expressions.ExprOrSpread.{ExprOrSpread}
 use Rattle.swc_ast.specs.declared.expressions.PropOrSpread.{PropOrSpread}
 use Rattle.swc_json_parse.specs.Written.{Wrote, text_within, elements_within, members_within, member_within}
-use Rattle.swc_json_parse.proofs.Within.{joined, elements_first, spread_fails, members_first, no_elements, no_more_members}
+use Rattle.swc_json_parse.proofs.Within.{joined, elements_first, members_first}
 
 -- what is taken in two pieces is taken as one text
 abbrev pub Joins : {O : Type 0} → (O → Text → O → Type 0) → Type 0
@@ -35,9 +35,6 @@ there_is_none takes (Some x) a b w is h = absurd (false≢true (sym is ∙ h.0))
 pub wrote_none : {O : Type 0} (takes : O → Text → O → Type 0) (o : Option Text) (a b : O) → o ≡ None → Wrote takes o a false b
 wrote_none takes o a b h = subst (λ p. Wrote takes p a false b) (sym h) refl
 
-pub wrote_some : {O : Type 0} (takes : O → Text → O → Type 0) (o : Option Text) (x : Text) (a b : O) → o ≡ Some x → takes a x b → Wrote takes o a true b
-wrote_some takes o x a b h t = subst (λ p. Wrote takes p a true b) (sym h) (refl, t)
-
 pub wrote_at : {O : Type 0} (takes : O → Text → O → Type 0) (o p : Option Text) (a b : O) (w : Bool) → o ≡ p → Wrote takes p a w b → Wrote takes o a w b
 wrote_at takes o p a b w h k = subst (λ q. Wrote takes q a w b) (sym h) k
 
@@ -57,9 +54,6 @@ tail_front takes joins (Err e) x o p a b c h t k = k
 -- once the rest is taken, the whole is
 pub record Leads {O : Type 0} (takes : O → Text → O → Type 0) (rest : Option Text) (now : O) (whole : Option Text) (start : O) : Type 0 where
   pub to : (w : Bool) (c : O) → Wrote takes rest now w c → Wrote takes whole start w c
-
-pub begin : {O : Type 0} (takes : O → Text → O → Type 0) (o : Option Text) (a : O) → Leads takes o a o a
-begin takes o a = record { to = λ w c h. h }
 
 -- an item with what stands in front of it was taken
 step : {O : Type 0} (takes : O → Text → O → Type 0) → Joins takes → (s : Text) (o rest left whole : Option Text) (a b c start : O) → left ≡ joined s o rest → takes a s b → Took takes o b c → Leads takes left a whole start → Leads takes rest c whole start
@@ -88,15 +82,6 @@ module _ {O : Type 0} (takes : O → Text → O → Type 0) where
       let here : elements_within n later (drop i xs) ≡ elements_within n later (Some x ∷ drop (i + 1) xs) = at_drop_more (elements_within n later) xs i o within ∙ ap (λ y. elements_within n later (y ∷ drop (i + 1) xs)) (sym at ∙ is) in
       stops takes _ _ a d start (here ∙ elements_first n later x (drop (i + 1) xs) plain ∙ ap (λ p. joined (comma_if later) p (elements_within n true (drop (i + 1) xs))) (there_is_none takes _ b c w bad h)) l
 
-  pub hole_fails : (n : ℕ) (later : Bool) (xs whole : List (Option (ExprOrSpread Expr))) (i : ℕ) (o : Option (ExprOrSpread Expr)) (a d start : O) → i < length xs → o ≡ get_or xs i o → o ≡ None → ElementsLead n later (drop i xs) a whole start → Wrote takes (elements_within n false whole) start false d
-  hole_fails n later xs whole i o a d start within at is l = stops takes _ _ a d start (at_drop_more (elements_within n later) xs i o within ∙ ap (λ y. elements_within n later (y ∷ drop (i + 1) xs)) (sym at ∙ is)) l
-
-  pub spread_stops : (n : ℕ) (later : Bool) (xs whole : List (Option (ExprOrSpread Expr))) (i : ℕ) (o : Option (ExprOrSpread Expr)) (x : ExprOrSpread Expr) (s : _) (a d start : O) → i < length xs → o ≡ get_or xs i o → o ≡ Some x → x.spread ≡ Some s → ElementsLead n later (drop i xs) a whole start → Wrote takes (elements_within n false whole) start false d
-  spread_stops n later xs whole i o x s a d start within at is spread l = stops takes _ _ a d start (at_drop_more (elements_within n later) xs i o within ∙ ap (λ y. elements_within n later (y ∷ drop (i + 1) xs)) (sym at ∙ is) ∙ spread_fails n later x (drop (i + 1) xs) s spread) l
-
-  pub elements_end : (n : ℕ) (later : Bool) (xs whole : List (Option (ExprOrSpread Expr))) (i : ℕ) (a b start : O) → length xs ≤ i → takes a (93 ∷ []) b → ElementsLead n later (drop i xs) a whole start → Wrote takes (elements_within n false whole) start true b
-  elements_end n later xs whole i a b start all h l = l.to true b (wrote_some takes _ (93 ∷ []) a b (at_drop_all (elements_within n later) xs i all ∙ no_elements n later) h)
-
   -- what is left of members
   abbrev pub members_left : ℕ → Bool → List PropOrSpread → Option Text
   members_left n later xs = members_within n later (list_trees prop_or_spread_tree xs)
@@ -115,6 +100,3 @@ module _ {O : Type 0} (takes : O → Text → O → Type 0) where
   member_fails n later xs whole i x a b c d start w within at bad h l =
       let here : members_left n later (drop i xs) ≡ members_left n later (x ∷ drop (i + 1) xs) = at_drop_more (members_left n later) xs i x within ∙ ap (λ y. members_left n later (y ∷ drop (i + 1) xs)) (sym at) in
       stops takes _ _ a d start (here ∙ members_first n later (prop_or_spread_tree x) (list_trees prop_or_spread_tree (drop (i + 1) xs)) ∙ ap (λ p. joined (comma_if later) p (members_left n true (drop (i + 1) xs))) (there_is_none takes _ b c w bad h)) l
-
-  pub members_end : (n : ℕ) (later : Bool) (xs whole : List PropOrSpread) (i : ℕ) (a b start : O) → length xs ≤ i → takes a (125 ∷ []) b → MembersLead n later (drop i xs) a whole start → Wrote takes (members_left n false whole) start true b
-  members_end n later xs whole i a b start all h l = l.to true b (wrote_some takes _ (125 ∷ []) a b (at_drop_all (members_left n later) xs i all ∙ no_more_members n later) h)

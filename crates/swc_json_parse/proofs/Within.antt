@@ -17,7 +17,6 @@ use Rattle.swc_ast.specs.declared.expressions.PropOrSpread.{PropOrSpread}
 use Rattle.tree_keys.specs.Keys.{are_keys, keys_of}
 use Rattle.swc_json_parse.specs.JsonText.{data_of, items_of, members_of, all_plain}
 use Rattle.swc_json_parse.specs.Written.{text_within, items_within, elements_within, members_within, member_within}
-use Rattle.swc_json_parse.proofs.Nodes.{zero_below}
 
 -- two comparisons that say the same
 same_test : (a b c d : ℕ) → (a ≤ b → c ≤ d) → (c ≤ d → a ≤ b) → nat_le a b ≡ nat_le c d
@@ -70,10 +69,6 @@ elements_first n later x xs h =
     ∙ ap (λ r. if all_plain (map item_kind xs) then r else None) (items_first n later (expr_tree x.expr.value) (item_trees expr_tree xs))
     ∙ if_plain (all_plain (map item_kind xs)) (comma_if later) (text_within n (expr_tree x.expr.value)) (items_within n true (item_trees expr_tree xs))
 
--- a spread element
-pub spread_fails : (n : ℕ) (later : Bool) (x : ExprOrSpread Expr) (xs : List (Option (ExprOrSpread Expr))) (s : _) → x.spread ≡ Some s → elements_within n later (Some x ∷ xs) ≡ None
-spread_fails n later x xs s h = ap (λ o. if all_plain (spread_kind o ∷ map item_kind xs) then items_within n later (expr_tree x.expr.value ⊳ item_trees expr_tree xs) else None) h
-
 member_first : (n : ℕ) (later : Bool) (k : Text) (o : Option Data) (p : Option Members) → option_and_then (λ ms. if nat_le (members_depth ms) n then Some (members_text later ms) else None) (option_and_then (λ d. option_map (member k d) p) o)
     ≡ joined (comma_if later) (option_map (λ x. quoted k ++ 58 ∷ x) (option_and_then (λ d. if nat_le (depth d) n then Some (compact_text d) else None) o)) (option_and_then (λ ms. if nat_le (members_depth ms) n then Some (members_text true ms) else None) p)
 member_first n later k None p = refl
@@ -95,21 +90,11 @@ pub members_first : (n : ℕ) (later : Bool) (t : Tree) (ts : Forest) → member
 members_first n later (node KeyValue ss (node (PlainKey k) rs ε ⊳ v ⊳ ε)) ts = member_first n later (key_name k) (data_of v) (members_of ts)
 members_first n later t ts = refl
 
--- nothing is left: the closing bracket
-pub no_elements : (n : ℕ) (later : Bool) → elements_within n later [] ≡ Some (93 ∷ [])
-no_elements n later = ap (λ b. if b then Some (93 ∷ []) else None) (zero_below n)
-
-pub no_more_members : (n : ℕ) (later : Bool) → members_within n later ε ≡ Some (125 ∷ [])
-no_more_members n later = ap (λ b. if b then Some (125 ∷ []) else None) (zero_below n)
-
 one_less : (a n : ℕ) → 0 < n → nat_le (suc a) n ≡ nat_le a (n - 1)
 one_less a n h = same_test (suc a) n a (n - 1) (λ p. omega (arith, p)) (λ p. omega (arith, p, h))
 
 never_below : (a : ℕ) → nat_le (suc a) 0 ≡ false
 never_below a = elim (leb_tells (suc a) 0) [ inl p ↦ absurd (omega (arith, p.1)) | inr p ↦ p.0 ]
-
-if_some : (b : Bool) (x y : Option Text) → x ≡ y → (if b then x else None) ≡ (if b then y else None)
-if_some b x y h = ap (λ o. if b then o else None) h
 
 array_of : (b : Bool) (n : ℕ) (o : Option Items) → 0 < n → option_and_then (λ d. if nat_le (depth d) n then Some (compact_text d) else None) (if b then option_map array o else None)
     ≡ option_map (λ x. 91 ∷ x) (if b then option_and_then (λ ds. if nat_le (items_depth ds) (n - 1) then Some (items_text false ds) else None) o else None)
@@ -141,10 +126,6 @@ object_at_none true (Some ms) = ap (λ b. if b then Some (123 ∷ members_text f
 
 pub no_object : (n : ℕ) (a : ObjectLit PropOrSpread) → n ≡ 0 → text_within n (object_tree prop_or_spread_tree a) ≡ None
 no_object n a h = ap (λ m. text_within m (object_tree prop_or_spread_tree a)) h ∙ object_at_none (are_keys (keys_of (list_trees prop_or_spread_tree a.props.items))) (members_of (list_trees prop_or_spread_tree a.props.items))
-
--- an object whose keys are not good
-pub keys_fail : (n : ℕ) (a : ObjectLit PropOrSpread) → are_keys (keys_of (list_trees prop_or_spread_tree a.props.items)) ≡ false → text_within n (object_tree prop_or_spread_tree a) ≡ None
-keys_fail n a h = ap (λ b. option_and_then (λ d. if nat_le (depth d) n then Some (compact_text d) else None) (if b then option_map object (members_of (list_trees prop_or_spread_tree a.props.items)) else None)) h
 
 object_of : (n : ℕ) (o : Option Members) → 0 < n → option_and_then (λ d. if nat_le (depth d) n then Some (compact_text d) else None) (option_map object o)
     ≡ option_map (λ x. 123 ∷ x) (option_and_then (λ ms. if nat_le (members_depth ms) (n - 1) then Some (members_text false ms) else None) o)

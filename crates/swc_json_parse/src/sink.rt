@@ -1,5 +1,5 @@
 //! What takes a text in pieces.
-ghost use Rattle.std.specs.Prelude.{◌≡◌, ◌+◌, ◌++◌, List, [], ℕ, nat_lt, length, OnOk, IfOk, string_bytes};
+ghost use Rattle.std.specs.Prelude.{◌≡◌, ◌+◌, ◌++◌, List, [], ℕ, nat_lt, length, OnOk, string_bytes};
 ghost use Rattle.json.specs.Print.{quoted, escape_letter, escape_byte};
 ghost use Rattle.swc_json_parse.specs.Joins.{lengths_rest, texts_rest, lengths_join, texts_join};
 

@@ -1,5 +1,5 @@
 //! The text of a tree.
-ghost use Rattle.std.specs.Prelude.{◌≡◌, [], true, false, IfOk, IfErr};
+ghost use Rattle.std.specs.Prelude.{◌≡◌, [], true, IfOk, IfErr};
 ghost use Rattle.swc_ast.specs.Modules.{module_tree, script_tree};
 ghost use Rattle.swc_ast.specs.Valid.{valid};
 ghost use Rattle.tree_captures.specs.Captured.{no_scope, captured};

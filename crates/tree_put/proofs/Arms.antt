@@ -28,7 +28,6 @@ use Rattle.swc_ast.specs.declared.expressions.AssignTarget.{AssignTarget}
 use Rattle.swc_ast.specs.declared.expressions.AssignTarget.TheVariants as target
 use Rattle.swc_ast.specs.declared.expressions.BinExpr.{BinExpr}
 use Rattle.swc_ast.specs.declared.expressions.CallExpr.{CallExpr}
-use Rattle.swc_ast.specs.declared.expressions.ComputedPropName.{ComputedPropName}
 use Rattle.swc_ast.specs.declared.expressions.CondExpr.{CondExpr}
 use Rattle.swc_ast.specs.declared.expressions.ExprOrSpread.{ExprOrSpread}
 use Rattle.swc_ast.specs.declared.expressions.FnExpr.{FnExpr}
@@ -47,7 +46,6 @@ use Rattle.swc_ast.specs.declared.expressions.UpdateExpr.{UpdateExpr}
 use Rattle.swc_ast.specs.declared.literals.Lit.{Lit}
 use Rattle.swc_ast.specs.declared.literals.Lit.TheVariants as lit
 use Rattle.swc_ast.specs.declared.names.Ident.{Ident}
-use Rattle.swc_ast.specs.declared.names.IdentName.{IdentName}
 use Rattle.swc_ast.proofs.ApartExpressions.{ExprForm, expr_form, expr_number, expr_at}
 use Rattle.swc_ast.proofs.SameCalls.{Callee, dot, index, eval, plain, callee}
 use Rattle.swc_ast.proofs.Equations.{expr_tree-This, expr_tree-Ident, expr_tree-Lit, expr_tree-Invalid, expr_tree-Array, expr_tree-Object, expr_tree-Fn, expr_tree-Unary, expr_tree-Update, expr_tree-Bin, expr_tree-Assign, expr_tree-Member, expr_tree-Cond, expr_tree-Call, expr_tree-New, expr_tree-Seq, expr_tree-Tpl, expr_tree-Arrow}
@@ -304,22 +302,6 @@ fn_arm {S} {X} {e} {f} {n} {m} {s} {t} {u} {v} b is same after o w c =
     let g : FunctionGoes X t (function_trees n.function.value) (function_trees b.value) u = subst (λ z. FunctionGoes X t (function_trees z.function.value) (function_trees b.value) u) same w in
     let q : X.opens s (tree.Fn (option_ident_name n.ident)) (function_forest (function_trees n.function.value)) ≡ t = subst (λ z. X.opens s (tree.Fn (option_ident_name z.ident)) (function_forest (function_trees z.function.value)) ≡ t) same o in
     parts_at (ap expr_tree is ∙ expr_tree-Fn n) (ap expr_tree after ∙ expr_tree-Fn _) (record { is = ap (under (tree.Fn (option_ident_name n.ident)) ((function_trees n.function.value).own ∷ option_ident_spans n.ident)) (in_scope {l = tree.Fn (option_ident_name n.ident)} q g.parts c).is ∙ ap (λ k. (node (tree.Fn (option_ident_name n.ident)) (k ∷ option_ident_spans n.ident) (function_forest (function_trees b.value)), v)) (sym g.own) })
-
--- an item of an array
-pub item_some : {S : Type 0} {X : Puts S} {s t : S} {o q : Option (ExprOrSpread Expr)} {n m : ExprOrSpread Expr} (a : Box Expr Global) → o ≡ Some n → m ≡ n → q ≡ Some (record n { expr = a }) → Makes X (expr_tree m.expr.value) s spot.Here (expr_tree a.value) t → ItemGoes X s o q t
-item_some {S} {X} {s} {t} {o} {q} {n} {m} a is same after w =
-    subst (λ k. ItemGoes X s k q t) (sym is) (subst (λ k. ItemGoes X s (Some n) k t) (sym after) (refl, subst (λ k. Makes X (expr_tree k.expr.value) s spot.Here (expr_tree a.value) t) same w))
-
-pub item_none : {S : Type 0} (X : Puts S) (s : S) (o : Option (ExprOrSpread Expr)) → o ≡ None → ItemGoes X s o o s
-item_none X s o is = subst (λ k. ItemGoes X s k k s) (sym is) refl
-
--- what stands in the brackets
-pub prop_computed : {S : Type 0} {X : Puts S} {s t : S} {p q : MemberProp Expr} {n m : ComputedPropName Expr} (a : Box Expr Global) → p ≡ prop.Computed n → m ≡ n → q ≡ prop.Computed (record n { expr = a }) → Makes X (expr_tree m.expr.value) s spot.Here (expr_tree a.value) t → PropGoes X s p q t
-prop_computed {S} {X} {s} {t} {p} {q} {n} {m} a is same after w =
-    subst (λ k. PropGoes X s k q t) (sym is) (subst (λ k. PropGoes X s (prop.Computed n) k t) (sym after) (refl, subst (λ k. Makes X (expr_tree k.expr.value) s spot.Here (expr_tree a.value) t) same w))
-
-pub prop_name : {S : Type 0} (X : Puts S) (s : S) (p : MemberProp Expr) {n : IdentName} → p ≡ prop.Ident n → PropGoes X s p p s
-prop_name X s p is = subst (λ k. PropGoes X s k k s) (sym is) (refl, refl)
 
 pub target_name : {S : Type 0} (X : Puts S) (s : S) (p : AssignTarget Expr) {n : Ident} → p ≡ target.Ident n → TargetGoes X s p p s
 target_name X s p {n} is = subst (λ k. TargetGoes X s k k s) (sym is) (name_target n s)

@@ -6,9 +6,9 @@ use Rattle.std.specs.declared.boxed.Box.{Box}
 use Rattle.std.specs.declared.vec.Vec.{Vec}
 use Rattle.swc_ast.specs.Tree as tree
 use Rattle.swc_ast.specs.Tree.{Name, Label, Tree, node, Forest, ε, ◌⊳◌}
-use Rattle.swc_ast.specs.Parts.{list_trees, optional_trees, tree_or_absent, ident_name, option_ident_name}
+use Rattle.swc_ast.specs.Parts.{list_trees, optional_trees, tree_or_absent, ident_name}
 use Rattle.swc_ast.specs.Expressions.{body_tree}
-use Rattle.swc_ast.specs.Statements.{LoopTrees, CaseTrees, block_tree, option_block_tree, try_tree, handler_param, handler_spans, if_node, for_node, while_node, do_while_node, loop_parts, case_parts, is_default_case, is_missing, case_children, switch_node, option_init_tree, init_tree, var_tree, declarator_tree, fn_decl_tree}
+use Rattle.swc_ast.specs.Statements.{LoopTrees, CaseTrees, block_tree, option_block_tree, try_tree, handler_param, handler_spans, if_node, for_node, while_node, do_while_node, loop_parts, case_parts, is_default_case, is_missing, case_children, switch_node, option_init_tree, var_tree, declarator_tree, fn_decl_tree}
 use Rattle.swc_ast.specs.Views.{expr_tree, stmt_tree, decl_tree, if_tree, switch_tree, for_tree, case_trees, loop_trees, function_trees}
 use Rattle.swc_ast.specs.declared.Span.{Span}
 use Rattle.swc_ast.specs.declared.VarDeclKind.{VarDeclKind}
@@ -43,7 +43,7 @@ use Rattle.swc_ast.proofs.Equations.{stmt_tree-Block, stmt_tree-Empty, stmt_tree
 use Rattle.tree_put.specs.Put.{put, steps, around, scoped, handled, under, in_front}
 use Rattle.tree_put.specs.Puts.{Puts}
 use Rattle.tree_put.specs.Scopes.{function_forest}
-use Rattle.tree_put.specs.Walks.{Makes, MakesAll, MakesScope, Each, none, more, EachGoes, Goes, OptionGoes, FunctionGoes, CaseGoes, LoopGoes, DoLoopGoes, HandlerGoes, DeclaratorGoes, handler_put}
+use Rattle.tree_put.specs.Walks.{Makes, MakesAll, MakesScope, Each, none, more, EachGoes, OptionGoes, FunctionGoes, CaseGoes, LoopGoes, DoLoopGoes, HandlerGoes, DeclaratorGoes, handler_put}
 use Rattle.tree_put.specs.declared.rules.Spot.TheVariants as spot
 use Rattle.tree_put.proofs.Putting.{nothing, both, one, parts, plain, passed, put_at, put_then, all_then, in_scope, each_list}
 
@@ -59,12 +59,6 @@ option_tree f None None h = put_then (plain refl refl nothing) h
 option_tree f (Some a) (Some b) h = h
 option_tree f None (Some b) h = absurd h
 option_tree f (Some a) None h = absurd h
-
-pub option_some : {S N : Type 0} {X : Puts S} (f : N → Tree) {s t : S} (o : Option (Box N Global)) (a b : Box N Global) → o ≡ Some a → Goes X f s a.value b.value t → OptionGoes X f s o (Some b) t
-option_some {S} {N} {X} f {s} {t} o a b is w = subst (λ k. OptionGoes X f s k (Some b) t) (sym is) w
-
-pub option_none : {S N : Type 0} (X : Puts S) (f : N → Tree) (s : S) (o : Option (Box N Global)) → o ≡ None → OptionGoes X f s o o s
-option_none X f s o is = subst (λ k. OptionGoes X f s k k s) (sym is) refl
 
 option_missing : {S N : Type 0} (X : Puts S) (f : N → Tree) (s t : S) (o p : Option (Box N Global)) → OptionGoes X f s o p t → is_missing p ≡ is_missing o
 option_missing X f s t None None h = refl
@@ -157,20 +151,8 @@ unfolding around
 for_made {S} {X} {x} {y} {s} {q} {r} {u} {v} {w} t m i j a b c d k l is after o h f g z e =
     put_at is after (record { is = passed X (for_node expr_tree stmt_tree m i a c k) s spot.Here refl ∙ ap (under tree.For (m ∷ [])) (in_scope {l = tree.For} o (both h (both (option_tree expr_tree a b f) (both (option_tree expr_tree c d g) (one z)))) e).is })
 
--- handlers
-pub handler_made : {S : Type 0} {X : Puts S} {s q r t : S} (h k : Option (CatchClause Stmt)) (n m : CatchClause Stmt) → h ≡ Some n → k ≡ Some m → m.span ≡ n.span → m.param ≡ n.param → X.opens s (tree.Try (handler_param (Some n))) (block_tree stmt_tree n.body ⊳ ε) ≡ q → Makes X (block_tree stmt_tree n.body) q spot.Here (block_tree stmt_tree m.body) r → X.closes r ≡ t → HandlerGoes X s h k t
-handler_made {S} {X} {s} {q} {r} {t} h k n m is after span named o w c =
-    subst (λ z. HandlerGoes X s z k t) (sym is) (subst (λ z. HandlerGoes X s (Some n) z t) (sym after) (record {
-      param = ap (λ z. Some (option_ident_name z)) named;
-      spans = cc (span, named);
-      block = ap (λ z. let a = put X (block_tree stmt_tree n.body) z spot.Here in (a.0, X.closes a.1)) o ∙ ap (λ a. (a.0, X.closes a.1)) w.is ∙ ap (λ z. (block_tree stmt_tree m.body, z)) c;
-    }))
-
 pub no_handler : {S : Type 0} (X : Puts S) (s : S) (h : Option (CatchClause Stmt)) → h ≡ None → HandlerGoes X s h h s
 no_handler X s h is = subst (λ z. HandlerGoes X s z z s) (sym is) (record { param = refl; spans = refl; block = (plain {l = tree.Absent} refl refl nothing).is })
-
-pub finalizer_some : {S : Type 0} {X : Puts S} {s t : S} {f : Option (BlockStmt Stmt)} {n : BlockStmt Stmt} (m : BlockStmt Stmt) → f ≡ Some n → Makes X (block_tree stmt_tree n) s spot.Here (block_tree stmt_tree m) t → Makes X (option_block_tree stmt_tree f) s spot.Here (block_tree stmt_tree m) t
-finalizer_some m is w = put_at (ap (option_block_tree stmt_tree) is) refl w
 
 pub no_finalizer : {S : Type 0} (X : Puts S) (s : S) (f : Option (BlockStmt Stmt)) → f ≡ None → Makes X (option_block_tree stmt_tree f) s spot.Here (option_block_tree stmt_tree f) s
 no_finalizer X s f is = put_at (ap (option_block_tree stmt_tree) is) (ap (option_block_tree stmt_tree) is) (plain refl refl nothing)
@@ -263,15 +245,5 @@ pub var_arm : {S : Type 0} {X : Puts S} {e f : Decl} {n m : VarDecl Expr} {s t :
 var_arm a is same after w =
     put_at (ap decl_tree is ∙ decl_tree-Var _ ∙ ap (var_tree expr_tree) (sym same)) (ap decl_tree after ∙ decl_tree-Var _) w
 
--- the head of a `for`
-pub init_some : {S : Type 0} {X : Puts S} {s t : S} {i : Option (VarDeclOrExpr Expr)} {n : VarDeclOrExpr Expr} (m : VarDeclOrExpr Expr) → i ≡ Some n → Makes X (init_tree expr_tree n) s spot.Here (init_tree expr_tree m) t → Makes X (option_init_tree expr_tree i) s spot.Here (init_tree expr_tree m) t
-init_some m is w = put_at (ap (option_init_tree expr_tree) is) refl w
-
 pub no_init : {S : Type 0} (X : Puts S) (s : S) (i : Option (VarDeclOrExpr Expr)) → i ≡ None → Makes X (option_init_tree expr_tree i) s spot.Here (option_init_tree expr_tree i) s
 no_init X s i is = put_at (ap (option_init_tree expr_tree) is) (ap (option_init_tree expr_tree) is) (plain refl refl nothing)
-
-pub init_var : {S : Type 0} {X : Puts S} {s t : S} {e f : VarDeclOrExpr Expr} {n m : VarDecl Expr} (a : VarDecl Expr) → e ≡ init.VarDecl n → m ≡ n → f ≡ init.VarDecl a → Makes X (var_tree expr_tree m) s spot.Here (var_tree expr_tree a) t → Makes X (init_tree expr_tree e) s spot.Here (init_tree expr_tree f) t
-init_var a is same after w = put_at (ap (init_tree expr_tree) is ∙ ap (var_tree expr_tree) (sym same)) (ap (init_tree expr_tree) after) w
-
-pub init_expr : {S : Type 0} {X : Puts S} {s t : S} {e f : VarDeclOrExpr Expr} {n m : Box Expr Global} (a : Box Expr Global) → e ≡ init.Expr n → m ≡ n → f ≡ init.Expr a → Makes X (expr_tree m.value) s spot.Here (expr_tree a.value) t → Makes X (init_tree expr_tree e) s spot.Here (init_tree expr_tree f) t
-init_expr a is same after w = put_at (ap (init_tree expr_tree) is ∙ ap (λ k. expr_tree k.value) (sym same)) (ap (init_tree expr_tree) after) w

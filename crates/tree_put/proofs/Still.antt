@@ -8,7 +8,7 @@ use Rattle.swc_ast.specs.declared.Span.{Span}
 use Rattle.swc_ast.specs.declared.UnaryOp.TheVariants as op
 use Rattle.tree_put.specs.Put.{Step, put, steps, around, in_turn, chosen, expanded}
 use Rattle.tree_put.specs.Puts.{Answer, enter, stay, become}
-use Rattle.tree_put.specs.Still.{still, put_still}
+use Rattle.tree_put.specs.Still.{still}
 use Rattle.tree_put.specs.declared.rules.Spot.{Spot}
 use Rattle.tree_put.specs.declared.rules.Spot.TheVariants as spot
 
@@ -66,7 +66,3 @@ mutual
   steps_stay : {K : Type 0} (A : K → Spot → Tree → Answer) (ts : Forest) (k : K) → Stays k (steps (still A) ts)
   steps_stay A ε k = no_more
   steps_stay A (t ⊳ ts) k = and_more (λ p. put_stays A t k p) (steps_stay A ts k)
-
--- so its answer is told without states
-pub put_is_still : {K : Type 0} (A : K → Spot → Tree → Answer) (t : Tree) (k : K) (p : Spot) → put (still A) t k p ≡ (put_still A k p t, k)
-put_is_still A t k p = ap (λ z. (put_still A k p t, z)) (put_stays A t k p)

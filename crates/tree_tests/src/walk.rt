@@ -1,5 +1,5 @@
 //! The walk, by a pass that takes a step in front: the value of an assignment takes its place.
-ghost use Rattle.std.specs.Prelude.{◌≡◌, ◌≤◌, IfOk, IsFalse};
+ghost use Rattle.std.specs.Prelude.{◌≡◌, ◌≤◌, IsFalse};
 ghost use Rattle.swc_ast.specs.declared.expressions.Expr.{size-Expr};
 
 use std::alloc::{AllocError, Global};

@@ -3,7 +3,7 @@ ghost use Rattle.std.specs.Prelude.{◌≡◌, IfOk};
 ghost use Rattle.swc_ast.specs.Expressions.{member_tree, key_tree, param_tree, unary_tree, key_value_tree};
 ghost use Rattle.swc_ast.specs.Views.{expr_tree, prop_or_spread_tree, prop_tree, method_tree, function_trees, arrow_tree, arrow_body_tree};
 ghost use Rattle.swc_ast.specs.declared.expressions.AssignTarget.TheVariants.{Member};
-ghost use Rattle.tree_put.specs.Walks.{Makes, MakesParts, MakesScope, Each, Goes, EachGoes, OptionGoes, ItemGoes, PropGoes, TargetGoes, FunctionGoes, ShorthandGoes, spot_of};
+ghost use Rattle.tree_put.specs.Walks.{Makes, MakesParts, Each, Goes, EachGoes, OptionGoes, ItemGoes, PropGoes, TargetGoes, FunctionGoes, ShorthandGoes, spot_of};
 
 use crate::rules::{Put, Puts, Scope, Spot};
 use crate::walk::statements::put_body;

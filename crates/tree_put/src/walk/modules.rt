@@ -1,5 +1,5 @@
 //! The walk over modules and scripts.
-ghost use Rattle.std.specs.Prelude.{◌≡◌, IfOk};
+ghost use Rattle.std.specs.Prelude.{IfOk};
 ghost use Rattle.swc_ast.specs.Modules.{item_tree, module_decl_tree, module_tree, script_tree, export_specifier_tree};
 ghost use Rattle.tree_put.specs.Walks.{Goes, EachGoes};
 

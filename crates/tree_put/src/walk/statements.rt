@@ -1,11 +1,11 @@
 //! The walk over statements and declarations.
-ghost use Rattle.std.specs.Prelude.{◌≡◌, IfOk};
+ghost use Rattle.std.specs.Prelude.{IfOk};
 ghost use Rattle.swc_ast.specs.Expressions.{body_tree};
 ghost use Rattle.swc_ast.specs.Parts.{list_trees};
 ghost use Rattle.swc_ast.specs.Statements.{block_tree, option_block_tree, option_init_tree, init_tree, var_tree, try_tree};
 ghost use Rattle.swc_ast.specs.Tree.{CaseBody};
 ghost use Rattle.swc_ast.specs.Views.{expr_tree, stmt_tree, decl_tree, if_tree, switch_tree, case_trees, loop_trees, for_tree};
-ghost use Rattle.tree_put.specs.Walks.{Makes, MakesParts, MakesScope, Each, Goes, EachGoes, OptionGoes, HandlerGoes, CaseGoes, LoopGoes, DoLoopGoes, DeclaratorGoes};
+ghost use Rattle.tree_put.specs.Walks.{MakesScope, Each, Goes, EachGoes, OptionGoes, HandlerGoes, CaseGoes, LoopGoes, DoLoopGoes, DeclaratorGoes};
 
 use crate::rules::{Puts, Scope, Spot};
 use crate::walk::expressions::{put_boxed, put_boxed_function, put_option};

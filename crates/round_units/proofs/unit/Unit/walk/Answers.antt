@@ -1,4 +1,3 @@
-use Rattle.std.proofs.Common.{List}
 use Rattle.std.specs.Prelude.{IfSome}
 use Rattle.swc_ast.specs.Marks.{context_number}
 use Rattle.swc_ast.specs.Modules.{item_tree}

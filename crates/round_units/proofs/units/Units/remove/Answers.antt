@@ -5,7 +5,6 @@ use Rattle.branch_rules.specs.Removes.{remove_pass}
 use Rattle.round_units.specs.Held.{Held}
 use Rattle.round_units.specs.Trees.{units_tree, tree_of}
 use Rattle.tree_walk.proofs.ModuleArms.{items_then}
-use Rattle.dce_uses.specs.Tables.{names_of}
 use Rattle.round_units.specs.Rests.{items_in}
 use Rattle.round_units.proofs.Lists.{each_item, items_tidied, known_kept, said_kept}
 use Rattle.round_units.proofs.units.Units.remove.Goals as goal
