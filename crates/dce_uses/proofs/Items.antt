@@ -1,12 +1,9 @@
 -- Items of a module, noted one after another.
-use Rattle.std.proofs.Common.{◌≡◌, ◌≤◌, ◌<◌, ◌-◌, Bool, ◌||◌, ◌&&◌, IfOk, List, [], ◌∷◌, length, take, drop, get_or, refl, sym, ap, ap₂, subst, ◌∙◌, arith}
+use Rattle.std.proofs.Common.{◌≡◌, ◌≤◌, ◌<◌, ◌-◌, Bool, ◌||◌, ◌&&◌, List, [], ◌∷◌, length, take, drop, get_or, refl, sym, ap, ap₂, subst, ◌∙◌, arith}
 use Rattle.std.proofs.lemmas.List.{nil_from_length}
-use Rattle.std.proofs.lemmas.Result.{IfOk-weaker}
-use Rattle.std.specs.declared.result.Result.{Result}
 use Rattle.swc_ast.specs.declared.Span.{Span}
 use Rattle.swc_ast.specs.Modules.{item_tree, module_tree}
 use Rattle.swc_ast.specs.Parts.{list_trees}
-use Rattle.swc_ast.specs.declared.errors.PassError.{PassError}
 use Rattle.swc_ast.specs.declared.modules.Module.{Module}
 use Rattle.swc_ast.specs.declared.modules.ModuleItem.{ModuleItem}
 use Rattle.swc_ast.specs.Tree as tree
@@ -107,10 +104,8 @@ pub items_past : {X : Type 0} (f : X → ModuleItem) (u : Uses) (left : List X) 
 items_past f u left all none h ss = ends u (list_trees (λ y. item_tree (f y)) left) all (ap (list_trees (λ y. item_tree (f y))) (nil_from_length left (omega (arith, none)))) h ss
 
 -- the items of a module
-pub module_told : (r : Result Uses PassError) (m : Module) (xs : List ModuleItem) → xs ≡ m.body.items → IfOk r (λ u. (ss : List Span) → Tells u (node tree.Module ss (list_trees item_tree xs))) → IfOk r (λ u. Tells u (module_tree m))
-module_told r m xs is h =
-    IfOk-weaker r (λ u. (ss : List Span) → Tells u (node tree.Module ss (list_trees item_tree xs))) (λ u. Tells u (module_tree m))
-    (λ u k. subst (λ ys. Tells u (node tree.Module (m.span ∷ []) (list_trees item_tree ys))) is (k (m.span ∷ []))) h
+pub module_told : (u : Uses) (m : Module) (xs : List ModuleItem) → xs ≡ m.body.items → ((ss : List Span) → Tells u (node tree.Module ss (list_trees item_tree xs))) → Tells u (module_tree m)
+module_told u m xs is h = subst (λ ys. Tells u (node tree.Module (m.span ∷ []) (list_trees item_tree ys))) is (h (m.span ∷ []))
 
 -- an item by itself
 pub item_told : (u v : Uses) (t : Tree) (l : Label) (cs : Forest) → IsUnused u → label_of t ≡ l → children_of t ≡ cs → NotesItem u v l cs → Tells v (node tree.Module [] (t ⊳ ε))

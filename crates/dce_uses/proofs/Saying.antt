@@ -1,5 +1,5 @@
 -- What items say, by numbers.
-use Rattle.std.proofs.Common.{◌≡◌, ◌≤◌, ◌-◌, ◌||◌, IfSome, List, Option, length, take, drop, get_or, refl, sym, ap, ap₂, subst, ◌∙◌}
+use Rattle.std.proofs.Common.{◌≡◌, ◌≤◌, ◌-◌, ◌||◌, IfSome, List, Option, None, length, take, drop, get_or, refl, sym, ap, ap₂, subst, ◌∙◌}
 use Rattle.std.proofs.lemmas.Option.{IfSome_then}
 use Rattle.stmt_like.specs.Kept.{IsIn, is_first, is_later}
 use Rattle.swc_ast.specs.Modules.{item_tree}
@@ -30,6 +30,10 @@ says_behind xs ys s t h e = record {
 
 pub all_behind : {X : Type 0} (xs ys : List Name) (item : X → ModuleItem) (tells : X → Option Said) (zs : List X) → AllSaid xs item tells zs → Extends xs ys → AllSaid ys item tells zs
 all_behind xs ys item tells zs h e = λ x at. IfSome_then (tells x) (h x at) (λ s k. says_behind xs ys s (item_tree (item x)) k e)
+
+-- of the items of a module nothing is known
+pub untold : (ns : List Name) (xs : List ModuleItem) → AllSaid ns (λ x. x) (λ _. None) xs
+untold ns xs x at = tt
 
 -- an item is counted, and its rows are taken
 pub item_said : (u v : Uses) (w : Table) (s : Said) (t : Tree) (l : Label) (cs : Forest) → IsUnused u → label_of t ≡ l → children_of t ≡ cs → NotesItem u v l cs → Takes v.table w s.rows.items → s.exports_default ≡ v.exports_default → Says w.names s t

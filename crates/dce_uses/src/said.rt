@@ -1,9 +1,10 @@
 //! What items of a module say of names.
-ghost use Rattle.std.specs.Prelude.{◌≡◌, Option, option_copied};
+ghost use Rattle.std.specs.Prelude.{◌≡◌, None, Option, option_copied};
 ghost use Rattle.dce_uses.specs.declared.said.Said as said_of;
 
 use crate::tally::Tally;
 use stmt_like::StmtLike;
+use swc_ast::ModuleItem;
 
 /// What was noted of a name, which goes by its number.
 #[derive(Clone, Copy)]
@@ -27,4 +28,13 @@ pub trait Speaks: StmtLike {
     /// What it says, if that is known.
     fn said(&self) -> Option<&Said>
         ensures { option_copied result ≡ tells self.now };
+}
+
+/// An item of which nothing is known.
+impl Speaks for ModuleItem {
+    ghost tells = { λ _. None };
+
+    fn said(&self) -> Option<&Said> {
+        None
+    }
 }

@@ -123,26 +123,14 @@ impl Uses {
         Ok(())
     }
 
-    /// How the items of a module use its names, or what stands for them. Refuses where memory is refused.
-    pub fn of_items<T: StmtLike>(alloc: Global, items: &[T]) -> Result<Uses, PassError>
-        ensures tells { IfOk result (λ u. (ss : List Span) → tables.Tells u (node trees.Module ss (list_trees (λ x. item_tree (T.item x)) items.now))) }
-        ensures memory { IfErr result (λ e. e ≡ OutOfMemory) }
-    {
-        let mut uses = Uses::nothing(alloc);
-        let mut left = items;
-        while let [item, rest @ ..] = left {
-            uses.note_item(open_item(item))?;
-            left = rest;
-        }
-        Ok(uses)
-    }
-
     /// How a module uses its names. Refuses where memory is refused.
     pub fn of_module(alloc: Global, m: &Module) -> Result<Uses, PassError>
         ensures tells { IfOk result (λ u. tables.Tells u (module_tree m.now)) }
         ensures memory { IfErr result (λ e. e ≡ OutOfMemory) }
     {
-        Uses::of_items(alloc, &m.body)
+        let mut uses = Uses::nothing(alloc);
+        uses.tell(&m.body)?;
+        Ok(uses)
     }
 
     /// How a script uses its names: it exports nothing. Refuses where memory is refused.
