@@ -5,5 +5,5 @@
 mod members;
 mod operators;
 
-pub use members::{fold_member, fold_sequence, spread_items};
-pub use operators::{fold_binary, fold_condition, fold_unary};
+pub use members::{fold_member, fold_sequence, spread_items, spread_properties};
+pub use operators::{fold_binary, fold_unary};

@@ -1,12 +1,12 @@
-//! Folds of operators and conditions.
+//! Folds of operators.
 ghost use Rattle.std.specs.Prelude.{◌≡◌, IfOk, IsNone, false};
 ghost use Rattle.static_proofs.specs.Free.{kind_at};
 ghost use Rattle.swc_utils.specs.Globals.{unresolved};
 ghost use Rattle.expr_rules.specs.Replaced.{Replaced, expr_redex};
-ghost use Rattle.expr_operators.specs.Nodes.{binary_of, cond_of, unary_of};
+ghost use Rattle.expr_operators.specs.Nodes.{binary_of, unary_of};
 
 use std::alloc::Global;
-use swc_ast::{BinExpr, CondExpr, Expr, PassError, UnaryExpr};
+use swc_ast::{BinExpr, Expr, PassError, UnaryExpr};
 use swc_utils::ExprCtx;
 
 /// `expr_operators::fold_unary`
@@ -27,16 +27,4 @@ pub fn fold_binary(alloc: Global, ctx: &ExprCtx, n: &mut BinExpr) -> Result<Opti
     ensures finished { IfOk result (λ o. IsNone o → kind_at expr_redex (binary_of n.new) ≡ false) }
 {
     expr_operators::fold_binary(alloc, ctx, n)
-}
-
-/// `expr_operators::fold_condition`
-pub fn fold_condition(
-    alloc: Global,
-    ctx: &ExprCtx,
-    n: &mut CondExpr,
-) -> Result<Option<Expr>, PassError>
-    ensures steps { IfOk result (λ o. Replaced (unresolved ctx.now) (cond_of n.old) (cond_of n.new) o) }
-    ensures finished { IfOk result (λ o. IsNone o → kind_at expr_redex (cond_of n.new) ≡ false) }
-{
-    expr_operators::fold_condition(alloc, ctx, n)
 }

@@ -6,4 +6,4 @@ mod captures;
 mod resolved;
 
 pub use captures::first_fault;
-pub use resolved::{is_core, is_core_and_resolved, is_resolved};
+pub use resolved::{is_core, is_core_and_resolved, is_resolved, is_valid};

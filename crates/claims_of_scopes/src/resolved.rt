@@ -37,3 +37,10 @@ pub fn is_core_and_resolved(
 {
     swc_resolved::is_core_and_resolved(alloc, m, unresolved_mark)
 }
+
+/// `swc_debug::is_valid`
+pub fn is_valid(m: &Module) -> bool
+    ensures { IsTrue result ↔ valid (module_tree m.now) ≡ true }
+{
+    swc_debug::is_valid(m)
+}

@@ -2,8 +2,12 @@
 //! named after, under the same contract.
 #![tactic(auto)]
 
+mod names;
 mod nodes;
 mod walks;
+mod weights;
 
+pub use names::{apply_mark, into_target, new_mark};
 pub use nodes::{clone_return, is_same_name};
 pub use walks::{rewrite, walk_expr, walk_stmt};
+pub use weights::weight;

@@ -2,14 +2,22 @@
 //! what follows from both contracts, or asks them by the method that it is named after, under its contract.
 #![tactic(auto)]
 
-ghost use Rattle.std.specs.Prelude.{◌≡◌, [], IfOk};
-ghost use Rattle.swc_ast.specs.Modules.{module_tree, script_tree};
-ghost use Rattle.swc_ast.specs.Parts.{ident_name};
+ghost use Rattle.std.specs.Prelude.{◌≡◌, List, [], IfOk, IfErr, OnOk};
+ghost use Rattle.swc_ast.specs.Modules.{item_tree, module_tree, script_tree};
+ghost use Rattle.swc_ast.specs.Parts.{ident_name, list_trees};
+ghost use Rattle.swc_ast.specs.Tree as trees;
+ghost use Rattle.swc_ast.specs.Tree.{node};
+ghost use Rattle.swc_ast.specs.declared.Span.{Span};
+ghost use Rattle.swc_ast.specs.declared.errors.PassError.TheVariants.{OutOfMemory};
 ghost use Rattle.dce_rules.specs.Uses.{free_to_go, is_unread};
+ghost use Rattle.dce_uses.specs.Items.{IsUnused};
+ghost use Rattle.dce_uses.specs.Said.{AllSaid, Says};
 ghost use Rattle.dce_uses.specs.Tables as tables;
+ghost use Rattle.dce_uses.specs.Tables.{Extends, names_of};
 
-use dce_uses::Uses;
-use std::alloc::Global;
+use dce_uses::{Said, Speaks, Uses};
+use std::alloc::{AllocError, Global};
+use stmt_like::StmtLike;
 use swc_ast::{Ident, Module, PassError, Script};
 
 /// `Uses::is_free` in a module.
@@ -48,4 +56,24 @@ pub fn is_abroad(uses: &Uses, name: &Ident) -> bool
     ensures { result ≡ tables.is_abroad uses.now (ident_name name.now) }
 {
     uses.is_abroad(name)
+}
+
+/// `Uses::said`
+pub fn said<T: StmtLike>(uses: &mut Uses, alloc: Global, item: &T) -> Result<Said, AllocError>
+    requires { IsUnused uses.old }
+    ensures unused { OnOk result (IsUnused uses.new) }
+    ensures more { OnOk result (Extends (names_of uses.old) (names_of uses.new)) }
+    ensures says { IfOk result (λ s. Says (names_of uses.new) s (item_tree (T.item item.now))) }
+{
+    uses.said(alloc, item)
+}
+
+/// `Uses::tell`
+pub fn tell<T: Speaks>(uses: &mut Uses, items: &[T]) -> Result<(), PassError>
+    requires said { AllSaid (names_of uses.old) T.item T.tells items.now }
+    ensures tells { OnOk result ((ss : List Span) → tables.Tells uses.new (node trees.Module ss (list_trees (λ x. item_tree (T.item x)) items.now))) }
+    ensures more { OnOk result (Extends (names_of uses.old) (names_of uses.new)) }
+    ensures memory { IfErr result (λ e. e ≡ OutOfMemory) }
+{
+    uses.tell(items)
 }

@@ -1,0 +1,9 @@
+//! What is promised of the work of the program and of what flags give, for edits that must fail: each function here calls the
+//! one that it is named after, under the same contract.
+#![tactic(auto)]
+
+mod given;
+mod runs;
+
+pub use given::{Told, count_levels, get, insert, number, prepare, replace};
+pub use runs::{json_parse, run, run_pass};
