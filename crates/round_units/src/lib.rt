@@ -1,4 +1,4 @@
-//! A module in rounds of passes, as its items, each of which knows the passes that leave it as it is.
+//! A module in rounds of passes, as its items, each of which knows the passes that leave it as it is and what it says of names.
 #![tactic(auto)]
 
 mod unit;
