@@ -1,142 +1,14 @@
-//! Each public item has its path in `swc_optimization`.
+//! Each public function has its path in `swc_optimization`.
 use std::alloc::Global;
 use std::collections::BTreeMap;
 use std::process::Abort;
 use std::test::Fail;
 use swc_optimization::ast::{self, EqIgnoreSpan};
 use swc_optimization::pass::{Chain, Pass, Repeat};
-use swc_optimization::text::{self, PrintError, ReadError};
 use swc_optimization::{
-    ConstModules, GlobalExprMap, InlineGlobals, JsonParse, const_modules, debug, inline_globals,
-    inline_globals2, json_parse, simplify, utils,
+    GlobalExprMap, const_modules, debug, inline_globals, inline_globals2, json_parse, simplify,
+    text, utils,
 };
-
-/// Takes a type by its name.
-fn named<T>() {}
-
-#[test]
-fn expressions_have_paths() {
-    named::<ast::ArrayLit>();
-    named::<ast::ArrowExpr>();
-    named::<ast::AssignExpr>();
-    named::<ast::AssignOp>();
-    named::<ast::AssignTarget>();
-    named::<ast::BinExpr>();
-    named::<ast::BinaryOp>();
-    named::<ast::BlockStmtOrExpr>();
-    named::<ast::Bool>();
-    named::<ast::CallExpr>();
-    named::<ast::ComputedPropName>();
-    named::<ast::CondExpr>();
-    named::<ast::Expr>();
-    named::<ast::ExprOrSpread>();
-    named::<ast::FnExpr>();
-    named::<ast::Invalid>();
-    named::<ast::KeyValueProp>();
-    named::<ast::Lit>();
-    named::<ast::MemberExpr>();
-    named::<ast::MemberProp>();
-    named::<ast::MethodProp>();
-    named::<ast::NewExpr>();
-    named::<ast::Null>();
-    named::<ast::Number>();
-    named::<ast::ObjectLit>();
-    named::<ast::Prop>();
-    named::<ast::PropName>();
-    named::<ast::PropOrSpread>();
-    named::<ast::SeqExpr>();
-    named::<ast::SpreadElement>();
-    named::<ast::Str>();
-    named::<ast::ThisExpr>();
-    named::<ast::Tpl>();
-    named::<ast::TplElement>();
-    named::<ast::UnaryExpr>();
-    named::<ast::UnaryOp>();
-    named::<ast::UpdateExpr>();
-    named::<ast::UpdateOp>();
-    named::<ast::VarDeclOrExpr>();
-}
-
-#[test]
-fn statements_have_paths() {
-    named::<ast::AssignPat>();
-    named::<ast::BlockStmt>();
-    named::<ast::BreakStmt>();
-    named::<ast::CatchClause>();
-    named::<ast::ContinueStmt>();
-    named::<ast::Decl>();
-    named::<ast::DoWhileStmt>();
-    named::<ast::EmptyStmt>();
-    named::<ast::ExprStmt>();
-    named::<ast::FnDecl>();
-    named::<ast::ForStmt>();
-    named::<ast::Function>();
-    named::<ast::IfStmt>();
-    named::<ast::LabeledStmt>();
-    named::<ast::Pat>();
-    named::<ast::ReturnStmt>();
-    named::<ast::Stmt>();
-    named::<ast::SwitchCase>();
-    named::<ast::SwitchStmt>();
-    named::<ast::ThrowStmt>();
-    named::<ast::TryStmt>();
-    named::<ast::VarDecl>();
-    named::<ast::VarDeclKind>();
-    named::<ast::VarDeclarator>();
-    named::<ast::WhileStmt>();
-}
-
-#[test]
-fn modules_and_names_have_paths() {
-    named::<ast::ExportDecl>();
-    named::<ast::ExportDefaultDecl>();
-    named::<ast::ExportDefaultExpr>();
-    named::<ast::ExportNamedSpecifier>();
-    named::<ast::Id>();
-    named::<ast::Ident>();
-    named::<ast::IdentName>();
-    named::<ast::ImportDecl>();
-    named::<ast::ImportDefaultSpecifier>();
-    named::<ast::ImportNamedSpecifier>();
-    named::<ast::ImportSpecifier>();
-    named::<ast::ImportStarAsSpecifier>();
-    named::<ast::Mark>();
-    named::<ast::Module>();
-    named::<ast::ModuleDecl>();
-    named::<ast::ModuleItem>();
-    named::<ast::NamedExport>();
-    named::<ast::PassError>();
-    named::<ast::Script>();
-    named::<ast::Span>();
-    named::<ast::SyntaxContext>();
-}
-
-#[test]
-fn passes_have_paths() {
-    named::<simplify::Config>();
-    named::<simplify::Simplifier>();
-    named::<simplify::SimplifyExpr>();
-    named::<simplify::ExprSimplifierConfig>();
-    named::<simplify::Remover>();
-    named::<simplify::TreeShaker>();
-    named::<simplify::dce::Config>();
-    named::<simplify::const_propagation::ConstPropagation>();
-    named::<simplify::inlining::Config>();
-    named::<simplify::inlining::Inlining>();
-    named::<simplify::ScopeKind>();
-    named::<InlineGlobals<'static>>();
-    named::<GlobalExprMap>();
-    named::<ConstModules>();
-    named::<JsonParse>();
-    named::<utils::ExprCtx>();
-    named::<utils::Names>();
-    named::<utils::Purity>();
-    named::<utils::Value<bool>>();
-    named::<utils::ValueType>();
-    named::<text::Construct>();
-    named::<ReadError>();
-    named::<PrintError>();
-}
 
 #[test]
 fn questions_have_paths(rt: HostRuntime) -> Result<(), Fail> {

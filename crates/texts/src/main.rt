@@ -1,13 +1,19 @@
-//! Tells what becomes of texts. Each line of standard input is a comment, an order or a text, and is written again; below a text
-//! stands what is told of it.
+//! Tells what becomes of texts, and what the program `shake` makes of them. Each line of standard input is a comment, an order or
+//! a text, and is written again; below a text stands what is told of it.
 #![tactic(auto)]
 
+mod command;
 mod compared;
+mod globals;
+mod imports;
 mod known;
 mod names;
 mod order;
 mod passes;
+mod peel;
+mod rounds;
 mod whole;
+mod words;
 
 use anyhow::Context;
 use order::Order;
@@ -15,9 +21,7 @@ use std::alloc::Global;
 use std::fmt::Write;
 use std::io;
 use swc_ast::Mark;
-
-/// What stands for the end of a line inside a text.
-const LINE_END: char = '¶';
+use words::LINE_END;
 
 fn main(rt: HostRuntime) -> anyhow::Result<()> {
     let input = io::read_to_string(rt.alloc(), rt.stdin())?;

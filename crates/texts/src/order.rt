@@ -1,19 +1,33 @@
 //! What is done with texts.
+use crate::command::CommandLine;
 use crate::compared::compared;
+use crate::globals::Globals;
+use crate::imports::exports;
 use crate::known::{Question, known};
 use crate::names::{named, weighed};
 use crate::passes::AnyPass;
-use crate::whole::{of_module, of_script};
-use anyhow::{Context, bail};
+use crate::peel::peeled;
+use crate::rounds::rounds;
+use crate::whole::{of_both, of_module};
+use crate::words::Words;
+use anyhow::bail;
 use std::alloc::Global;
 use swc_ast::Mark;
+use swc_const_modules::const_modules;
+use swc_dce::{TreeShaker, dce};
 use swc_optimization::Config;
 use swc_text::read_expr;
 
 /// What is done with a text.
 #[derive(Drop)]
 enum Task {
-    Run(AnyPass),
+    Run(AnyPass<'static>),
+    Put(Globals),
+    /// Each text is refused, since what is given is.
+    Refuse(String),
+    Shake(CommandLine),
+    Peel(TreeShaker, usize),
+    Repeat(Vec<String>),
     Compare,
     Read,
     Name,
@@ -33,7 +47,21 @@ impl Task {
             "text" => Task::Know(Question::Text),
             "type" => Task::Know(Question::Type),
             "facts" => Task::Know(Question::Facts),
+            "peel" => Task::Peel(dce(config.dce, mark), config.max_rounds),
+            "rounds" => Task::Repeat(config.dce.top_retain),
             name => Task::Run(AnyPass::parse(name, mark, config)?),
+        })
+    }
+
+    /// The tasks that are given something.
+    fn with(alloc: Global, name: &str, given: &[String], mark: Mark) -> anyhow::Result<Task> {
+        Ok(match name {
+            "globals" => Task::Put(Globals::parse(alloc, given, mark)?),
+            "imports" => match const_modules(alloc, &exports(alloc, given)?, mark) {
+                Ok(pass) => Task::Run(AnyPass::Imports(pass)),
+                Err(refusal) => Task::Refuse(format!(in alloc; "error: {refusal}")?),
+            },
+            _ => bail!("nothing is given to {name}"),
         })
     }
 }
@@ -49,29 +77,28 @@ pub struct Order {
 }
 
 impl Order {
-    /// An order's words: what is done, and then `modules` and what passes are told.
+    /// An order's words: what is done, and then what the program `shake` is called with, or `modules`, what passes are told and
+    /// what is given.
     pub fn parse(alloc: Global, line: &str, mark: Mark) -> anyhow::Result<Order> {
-        let mut words = line.split_whitespace();
-        let name = words.next().context("a task")?;
-        let mut config = Config::new(alloc);
-        let (mut is_for_modules, mut counts_rounds) = (false, false);
-        while let Some(word) = words.next() {
-            match word {
-                "modules" => is_for_modules = true,
-                "keep-top" => config.dce.top_level = false,
-                "drop-imports" => config.dce.preserve_imports_with_side_effects = false,
-                "retain" => {
-                    let name = words.next().context("a name")?;
-                    config.dce.top_retain.push(String::from_str(alloc, name)?)?;
-                }
-                "rounds" => {
-                    config.max_rounds = words.next().context("a number")?.parse()?;
-                    counts_rounds = true;
-                }
-                _ => bail!("{word} is no word of an order"),
-            }
+        let (name, rest) = line.split_once(' ').unwrap_or((line, ""));
+        if name == "shake" {
+            return Ok(Order {
+                task: Task::Shake(CommandLine::parse(alloc, rest)?),
+                is_for_modules: true,
+                counts_rounds: false,
+            });
         }
-        let task = Task::parse(name, mark, config)?;
+        let Words {
+            config,
+            is_for_modules,
+            counts_rounds,
+            given,
+        } = Words::parse(alloc, rest)?;
+        let task = if matches!(name, "globals" | "imports") || !given.is_empty() {
+            Task::with(alloc, name, given.as_slice(), mark)?
+        } else {
+            Task::parse(name, mark, config)?
+        };
         Ok(Order {
             task,
             is_for_modules,
@@ -84,16 +111,17 @@ impl Order {
         let both = !self.is_for_modules;
         match &mut self.task {
             Task::Run(pass) => {
-                let mut told = of_module(alloc, pass, text, mark, self.counts_rounds)?;
                 if both {
-                    let script = of_script(alloc, pass, text, mark, self.counts_rounds)?;
-                    if script != told {
-                        told.push_str("as a script:\n")?;
-                        told.push_str(script.as_str())?;
-                    }
+                    of_both(alloc, pass, text, mark, self.counts_rounds)
+                } else {
+                    of_module(alloc, pass, text, mark, self.counts_rounds)
                 }
-                Ok(told)
             }
+            Task::Put(globals) => put(alloc, globals, text, mark),
+            Task::Refuse(told) => Ok(told.clone()?),
+            Task::Shake(command) => command.run(alloc, text),
+            Task::Peel(pass, most) => peeled(alloc, pass, *most, text, mark),
+            Task::Repeat(retained) => rounds(alloc, retained.as_slice(), text, mark),
             Task::Compare => compared(alloc, text, mark, both),
             Task::Read => match read_expr(alloc, text, mark) {
                 Ok(_) => Ok(String::from_str(alloc, "an expression")?),
@@ -104,4 +132,10 @@ impl Order {
             Task::Know(what) => known(alloc, *what, text, mark),
         }
     }
+}
+
+/// What is told of a text in which what is given is put.
+fn put(alloc: Global, globals: &Globals, text: &str, mark: Mark) -> anyhow::Result<String> {
+    let mut pass = AnyPass::Globals(globals.pass(mark));
+    of_both(alloc, &mut pass, text, mark, false)
 }

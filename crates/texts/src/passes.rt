@@ -3,30 +3,40 @@ use anyhow::bail;
 use std::alloc::Global;
 use swc_ast::{Mark, Module, PassError, Script};
 use swc_branch::{Remover, dead_branch_remover};
+use swc_const_modules::ConstModules;
+use swc_const_propagation::{ConstPropagation, constant_propagation};
 use swc_dce::{TreeShaker, dce};
 use swc_expr::{SimplifyExpr, expr_simplifier};
+use swc_inline_globals::InlineGlobals;
+use swc_inlining::{Inlining, inlining};
 use swc_optimization::{Config, Simplifier, simplifier};
 use swc_pass::{Pass, Repeated};
 
 /// A pass, or nothing but the printer.
 #[derive(Drop)]
-pub enum AnyPass {
+pub enum AnyPass<'a> {
     Print,
     Expr(SimplifyExpr),
     Branch(Remover),
     Dce(TreeShaker),
     Simplify(Simplifier),
+    Const(ConstPropagation),
+    Inline(Inlining),
+    Imports(ConstModules),
+    Globals(InlineGlobals<'a>),
 }
 
-impl AnyPass {
+impl<'a> AnyPass<'a> {
     /// The pass of a name.
-    pub fn parse(name: &str, mark: Mark, config: Config) -> anyhow::Result<AnyPass> {
+    pub fn parse(name: &str, mark: Mark, config: Config) -> anyhow::Result<AnyPass<'a>> {
         Ok(match name {
             "print" => AnyPass::Print,
             "expr" => AnyPass::Expr(expr_simplifier(mark, config.expr)),
             "branch" => AnyPass::Branch(dead_branch_remover(mark)),
             "dce" => AnyPass::Dce(dce(config.dce, mark)),
             "simplify" => AnyPass::Simplify(simplifier(mark, config)),
+            "const" => AnyPass::Const(constant_propagation()),
+            "inline" => AnyPass::Inline(inlining(config.inlining)),
             _ => bail!("{name} is no order"),
         })
     }
@@ -39,6 +49,10 @@ impl AnyPass {
             AnyPass::Branch(pass) => pass.run(alloc, module),
             AnyPass::Dce(pass) => pass.run(alloc, module),
             AnyPass::Simplify(pass) => pass.run(alloc, module),
+            AnyPass::Const(pass) => pass.run(alloc, module),
+            AnyPass::Inline(pass) => pass.run(alloc, module),
+            AnyPass::Imports(pass) => pass.run(alloc, module),
+            AnyPass::Globals(pass) => pass.run(alloc, module),
         }
     }
 
@@ -50,6 +64,10 @@ impl AnyPass {
             AnyPass::Branch(pass) => pass.run_script(alloc, script),
             AnyPass::Dce(pass) => pass.run_script(alloc, script),
             AnyPass::Simplify(pass) => pass.run_script(alloc, script),
+            AnyPass::Const(pass) => pass.run_script(alloc, script),
+            AnyPass::Inline(pass) => pass.run_script(alloc, script),
+            AnyPass::Imports(pass) => pass.run_script(alloc, script),
+            AnyPass::Globals(pass) => pass.run_script(alloc, script),
         }
     }
 
@@ -61,6 +79,10 @@ impl AnyPass {
             AnyPass::Branch(pass) => pass.changed(),
             AnyPass::Dce(pass) => pass.changed(),
             AnyPass::Simplify(pass) => pass.changed(),
+            AnyPass::Const(pass) => pass.changed(),
+            AnyPass::Inline(pass) => pass.changed(),
+            AnyPass::Imports(pass) => pass.changed(),
+            AnyPass::Globals(pass) => pass.changed(),
         }
     }
 }

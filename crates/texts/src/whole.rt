@@ -3,15 +3,32 @@ use crate::passes::AnyPass;
 use core_trees::{is_core, is_script_core};
 use std::alloc::Global;
 use std::fmt::Write;
-use swc_ast::{Mark, Module};
+use swc_ast::{Mark, Module, PassError};
 use swc_debug::{is_script_valid, is_valid};
 use swc_resolved::{is_resolved, is_script_resolved};
 use swc_text::{print, print_script, read_module, read_script};
 
+/// What is told of a text as a module, and below that of the text as a script where it is something else.
+pub fn of_both(
+    alloc: Global,
+    pass: &mut AnyPass<'_>,
+    text: &str,
+    mark: Mark,
+    counts_rounds: bool,
+) -> anyhow::Result<String> {
+    let mut told = of_module(alloc, pass, text, mark, counts_rounds)?;
+    let script = of_script(alloc, pass, text, mark, counts_rounds)?;
+    if script != told {
+        told.push_str("as a script:\n")?;
+        told.push_str(script.as_str())?;
+    }
+    Ok(told)
+}
+
 /// What is told of a text as a module.
 pub fn of_module(
     alloc: Global,
-    pass: &mut AnyPass,
+    pass: &mut AnyPass<'_>,
     text: &str,
     mark: Mark,
     counts_rounds: bool,
@@ -20,19 +37,45 @@ pub fn of_module(
         Ok(module) => module,
         Err(error) => return Ok(format!(in alloc; "error: {error}\n")?),
     };
-    let answer = pass.run(alloc, &module)?;
-    let printed = print(alloc, &answer)?;
-    let printed = printed.as_str();
-    let mut told = become_of(alloc, pass, text, printed, counts_rounds)?;
+    let answer = match pass.run(alloc, &module) {
+        Ok(answer) => answer,
+        Err(refusal) => return refused(alloc, pass, refusal),
+    };
+    let printed = match print(alloc, &answer) {
+        Ok(printed) => printed,
+        Err(refusal) => return Ok(format!(in alloc; "not printed: {refusal}\n")?),
+    };
+    let mut told = become_of(alloc, pass, text, printed.as_str(), counts_rounds)?;
     if pass.changed() == (answer == module) {
         told.push_str("WRONG: what it tells of its change\n")?;
     }
     if !(is_resolved(alloc, &answer, mark)? && is_core(alloc, &answer)? && is_valid(&answer)) {
         told.push_str("WRONG: the answer is no tree of the core\n")?;
     }
+    push_again(alloc, &mut told, pass, printed.as_str(), mark)?;
+    Ok(told)
+}
+
+/// What is told of a refusal.
+fn refused(alloc: Global, pass: &AnyPass<'_>, refusal: PassError) -> anyhow::Result<String> {
+    let mut told = format!(in alloc; "error: {refusal}\n")?;
+    if pass.changed() {
+        told.push_str("WRONG: a change is told\n")?;
+    }
+    Ok(told)
+}
+
+/// Tells what is wrong with an answer once it is read again.
+fn push_again(
+    alloc: Global,
+    told: &mut String,
+    pass: &mut AnyPass<'_>,
+    printed: &str,
+    mark: Mark,
+) -> anyhow::Result<()> {
     let Ok(again) = read_module(alloc, printed, mark) else {
         told.push_str("WRONG: the answer isn't read again\n")?;
-        return Ok(told);
+        return Ok(());
     };
     if print(alloc, &again)?.as_str() != printed {
         told.push_str("WRONG: the answer is printed otherwise once it is read\n")?;
@@ -40,11 +83,11 @@ pub fn of_module(
     if !is_settled(alloc, pass, &again)? {
         told.push_str("WRONG: another run changes the answer\n")?;
     }
-    Ok(told)
+    Ok(())
 }
 
 /// Whether another run has nothing to do, where the last round of the last run had nothing to do.
-fn is_settled(alloc: Global, pass: &mut AnyPass, module: &Module) -> anyhow::Result<bool> {
+fn is_settled(alloc: Global, pass: &mut AnyPass<'_>, module: &Module) -> anyhow::Result<bool> {
     match pass {
         AnyPass::Simplify(pass) if pass.reached() => {
             let answer = pass.run(alloc, module)?;
@@ -55,9 +98,9 @@ fn is_settled(alloc: Global, pass: &mut AnyPass, module: &Module) -> anyhow::Res
 }
 
 /// What is told of a text as a script.
-pub fn of_script(
+fn of_script(
     alloc: Global,
-    pass: &mut AnyPass,
+    pass: &mut AnyPass<'_>,
     text: &str,
     mark: Mark,
     counts_rounds: bool,
@@ -66,8 +109,14 @@ pub fn of_script(
         Ok(script) => script,
         Err(error) => return Ok(format!(in alloc; "error: {error}\n")?),
     };
-    let answer = pass.run_script(alloc, &script)?;
-    let printed = print_script(alloc, &answer)?;
+    let answer = match pass.run_script(alloc, &script) {
+        Ok(answer) => answer,
+        Err(refusal) => return refused(alloc, pass, refusal),
+    };
+    let printed = match print_script(alloc, &answer) {
+        Ok(printed) => printed,
+        Err(refusal) => return Ok(format!(in alloc; "not printed: {refusal}\n")?),
+    };
     let mut told = become_of(alloc, pass, text, printed.as_str(), counts_rounds)?;
     if pass.changed() == (answer == script) {
         told.push_str("WRONG: what it tells of its change\n")?;
@@ -82,7 +131,7 @@ pub fn of_script(
 /// What a text becomes, by the answer's text and by what the pass tells.
 fn become_of(
     alloc: Global,
-    pass: &AnyPass,
+    pass: &AnyPass<'_>,
     text: &str,
     printed: &str,
     counts_rounds: bool,

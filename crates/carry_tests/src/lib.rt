@@ -1,7 +1,0 @@
-//! Tests of the passes that propagate.
-#![tactic(auto)]
-
-#[cfg(test)]
-mod rows;
-#[cfg(test)]
-mod trees;

@@ -1,5 +1,0 @@
-//! Tests of imports of given modules.
-#![tactic(auto)]
-
-#[cfg(test)]
-mod rows;

@@ -1,5 +1,0 @@
-//! Tests of given expressions.
-#![tactic(auto)]
-
-#[cfg(test)]
-mod globals;

@@ -1,0 +1,66 @@
+//! What is given for names, for chains of members, for members of `process.env` and for types of names.
+use anyhow::{Context, bail};
+use std::alloc::Global;
+use std::collections::BTreeMap;
+use swc_ast::{Expr, Mark};
+use swc_expr_map::GlobalExprMap;
+use swc_inline_globals::{InlineGlobals, inline_globals2};
+use swc_text::read_expr;
+
+/// What is given.
+#[derive(Drop)]
+pub struct Globals {
+    envs: BTreeMap<String, Expr>,
+    names: BTreeMap<String, Expr>,
+    chains: GlobalExprMap,
+    types: BTreeMap<String, String>,
+}
+
+impl Globals {
+    /// What words give: `NAME=EXPRESSION`, `chain:CHAIN=EXPRESSION`, `env:NAME=EXPRESSION` and `typeof:NAME=TEXT`.
+    pub fn parse(alloc: Global, given: &[String], mark: Mark) -> anyhow::Result<Globals> {
+        let mut globals = Globals {
+            envs: BTreeMap::new(alloc),
+            names: BTreeMap::new(alloc),
+            chains: GlobalExprMap::new(alloc),
+            types: BTreeMap::new(alloc),
+        };
+        for word in given {
+            let (key, text) = word.as_str().split_once('=').context("a value")?;
+            let (kind, name) = key.split_once(':').unwrap_or(("", key));
+            globals.add(alloc, kind, name, text, mark)?;
+        }
+        Ok(globals)
+    }
+
+    fn add(
+        &mut self,
+        alloc: Global,
+        kind: &str,
+        key: &str,
+        text: &str,
+        mark: Mark,
+    ) -> anyhow::Result<()> {
+        let name = String::from_str(alloc, key)?;
+        if kind == "typeof" {
+            self.types.insert(name, String::from_str(alloc, text)?)?;
+            return Ok(());
+        }
+        let value = read_expr(alloc, text, mark)?;
+        match kind {
+            "" => self.names.insert(name, value)?,
+            "env" => self.envs.insert(name, value)?,
+            "chain" => {
+                self.chains.insert(read_expr(alloc, key, mark)?, value)?;
+                None
+            }
+            _ => bail!("nothing is given for {kind}"),
+        };
+        Ok(())
+    }
+
+    /// The pass that puts what is given.
+    pub fn pass(&self, mark: Mark) -> InlineGlobals<'_> {
+        inline_globals2(&self.envs, &self.names, &self.chains, &self.types).with_mark(mark)
+    }
+}

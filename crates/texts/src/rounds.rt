@@ -1,0 +1,92 @@
+//! The simplifier beside its passes in a row, again and again.
+use std::alloc::Global;
+use std::fmt::Write;
+use swc_ast::Mark;
+use swc_branch::dead_branch_remover;
+use swc_dce::dce;
+use swc_expr::expr_simplifier;
+use swc_optimization::{Config, simplifier};
+use swc_pass::{Chain, Pass, Repeat, Repeated};
+use swc_text::{print, read_module};
+
+/// What a run leaves, and what is told of it.
+#[derive(Drop, PartialEq)]
+struct Outcome {
+    left: String,
+    rounds: usize,
+    reached: bool,
+    changed: bool,
+}
+
+/// How many rounds a text has, with 0, 1, 2, 3 and 100 of them at most; below that the same where some names are retained.
+pub fn rounds(
+    alloc: Global,
+    retained: &[String],
+    text: &str,
+    mark: Mark,
+) -> anyhow::Result<String> {
+    let mut told = String::from_str(alloc, "rounds:")?;
+    push_rounds(alloc, &mut told, &[], text, mark)?;
+    if !retained.is_empty() {
+        told.push_str("retained:")?;
+        push_rounds(alloc, &mut told, retained, text, mark)?;
+    }
+    Ok(told)
+}
+
+fn push_rounds(
+    alloc: Global,
+    told: &mut String,
+    retained: &[String],
+    text: &str,
+    mark: Mark,
+) -> anyhow::Result<()> {
+    for most in [0, 1, 2, 3, 100] {
+        let all = simplified(alloc, config(alloc, retained, most)?, text, mark)?;
+        let row = repeated(alloc, config(alloc, retained, most)?, text, mark)?;
+        if all != row {
+            told.push_str(" WRONG:")?;
+        }
+        let reached = if all.reached { " reached" } else { "" };
+        write!(told, " {}{reached}", all.rounds)?;
+    }
+    told.push_str("\n")?;
+    Ok(())
+}
+
+/// What passes are told.
+fn config(alloc: Global, retained: &[String], most: usize) -> anyhow::Result<Config> {
+    let mut config = Config::new(alloc);
+    config.max_rounds = most;
+    for name in retained {
+        config.dce.top_retain.push(name.clone()?)?;
+    }
+    Ok(config)
+}
+
+/// What the simplifier makes of a text.
+fn simplified(alloc: Global, config: Config, text: &str, mark: Mark) -> anyhow::Result<Outcome> {
+    let mut pass = simplifier(mark, config);
+    let answer = pass.run(alloc, &read_module(alloc, text, mark)?)?;
+    Ok(Outcome {
+        left: print(alloc, &answer)?,
+        rounds: pass.rounds(),
+        reached: pass.reached(),
+        changed: pass.changed(),
+    })
+}
+
+/// What its passes in a row make of a text.
+fn repeated(alloc: Global, config: Config, text: &str, mark: Mark) -> anyhow::Result<Outcome> {
+    let expressions = expr_simplifier(mark, config.expr);
+    let front = Chain::new(expressions, dead_branch_remover(mark));
+    let row = Chain::new(front, dce(config.dce, mark));
+    let mut pass = Repeat::new(row, config.max_rounds);
+    let answer = pass.run(alloc, &read_module(alloc, text, mark)?)?;
+    Ok(Outcome {
+        left: print(alloc, &answer)?,
+        rounds: pass.rounds(),
+        reached: pass.reached(),
+        changed: pass.changed(),
+    })
+}
