@@ -178,7 +178,7 @@ pub(crate) fn cut<T: StmtLike + Drop>(
     ensures cuts { IfOk result (λ r. Cut (among kept.now) (trees T.item items.items) (trees T.item r.items)) }
     ensures kept { IfOk result (λ r. Kept T.made items.items r.items) }
 {
-    let mut out = Vec::new(alloc);
+    let mut out = Vec::with_capacity(alloc, items.len())?;
     let mut rest = items.into_iter();
     while let Some(item) = rest.next() {
         if stops(&item) {

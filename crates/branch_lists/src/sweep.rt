@@ -61,7 +61,7 @@ pub(crate) fn sweep<T: StmtLike + Drop>(alloc: Global, items: Vec<T>) -> Result<
     ensures swept { IfOk result (λ r. trees T.item r.items ≡ swept (trees T.item items.items)) }
     ensures kept { IfOk result (λ r. Kept T.made items.items r.items) }
 {
-    let mut out = Vec::new(alloc);
+    let mut out = Vec::with_capacity(alloc, items.len())?;
     for item in items {
         push_swept(alloc, item, &mut out)?;
     }

@@ -64,7 +64,7 @@ fn units_of(alloc: Global, items: Vec<ModuleItem>) -> Result<Vec<Unit>, AllocErr
     ensures known { IfOk result (λ r. AllKnown r.items) }
     ensures said { IfOk result (λ r. (names : List Name) → AllSay names r.items) }
 {
-    let mut out = Vec::new(alloc);
+    let mut out = Vec::with_capacity(alloc, items.len())?;
     for item in items {
         out.push(Unit::new(item))?;
     }
@@ -75,7 +75,7 @@ fn units_of(alloc: Global, items: Vec<ModuleItem>) -> Result<Vec<Unit>, AllocErr
 fn items_of(alloc: Global, units: Vec<Unit>) -> Result<Vec<ModuleItem>, AllocError>
     ensures { IfOk result (λ r. r.items ≡ items_in units.items) }
 {
-    let mut out = Vec::new(alloc);
+    let mut out = Vec::with_capacity(alloc, units.len())?;
     for unit in units {
         out.push(unit.into_item())?;
     }

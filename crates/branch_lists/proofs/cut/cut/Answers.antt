@@ -13,8 +13,8 @@ pub loop-item-init : goal.loop-item-init
 loop-item-init g c =
     let f = g.T.StmtLike.item in
     let k = among c.args.kept.now in (
-      λ us h. subst (λ xs. Cut k (trees f c.args.items.items) (joined (trees f xs) us)) (sym c.new-out.ensures.items) (subst (λ xs. Cut k (trees f xs) us) c.into_iter-rest.ensures.rest h),
-      adding_none c.into_iter-rest.ensures.rest c.new-out.ensures.items,
+      λ us h. subst (λ xs. Cut k (trees f c.args.items.items) (joined (trees f xs) us)) (sym c.in_ok-out.ensures.items) (subst (λ xs. Cut k (trees f xs) us) c.into_iter-rest.ensures.rest h),
+      adding_none c.into_iter-rest.ensures.rest c.in_ok-out.ensures.items,
     )
 
 pub loop-item-preserved : goal.loop-item-preserved

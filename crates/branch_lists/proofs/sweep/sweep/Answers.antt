@@ -9,7 +9,7 @@ use Rattle.branch_lists.proofs.Turns.{trees_on, trees_end}
 use Rattle.branch_lists.proofs.sweep.sweep.Goals as goal
 
 pub loop-item-init : goal.loop-item-init
-loop-item-init g c = (search rules, adding_none c.into_iter-item-iterator.ensures.into_iter_gives.0 c.new-out.ensures.items)
+loop-item-init g c = (search rules, adding_none c.into_iter-item-iterator.ensures.into_iter_gives.0 c.in_ok-out.ensures.items)
 
 pub loop-item-preserved : goal.loop-item-preserved
 loop-item-preserved g c =
