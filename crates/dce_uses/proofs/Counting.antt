@@ -102,8 +102,8 @@ among_split f x p t ts us is = ap (noted_among f x p) is
 pub among_none : (f : Fact) (x : Name) (p : Place) (us : Forest) → us ≡ ε → noted_among f x p us ≡ false
 among_none f x p us is = ap (noted_among f x p) is
 
-pub children_fall : (t : Tree) (cs : Forest) → children_of t ≡ cs → forest_size cs * 3 + 2 < tree_size t * 3
+pub children_fall : (t : Tree) (cs : Forest) → children_of t ≡ cs → forest_size cs * 3 + 2 < tree_size t * 3 + 1
 children_fall t cs is = let smaller = opened_smaller t cs is in omega (arith, smaller)
 
-pub child_falls : (t : Tree) (ts us cs : Forest) → us ≡ t ⊳ ts → forest_size us ≤ forest_size cs → tree_size t * 3 < forest_size cs * 3 + 1
+pub child_falls : (t : Tree) (ts us cs : Forest) → us ≡ t ⊳ ts → forest_size us ≤ forest_size cs → tree_size t * 3 + 2 < forest_size cs * 3 + 1
 child_falls t ts us cs is h = omega (arith, ap forest_size is, h)

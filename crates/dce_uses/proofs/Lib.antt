@@ -5,6 +5,7 @@ mod Numbering
 mod Retaining
 mod Searches
 mod Seeing
+mod Plain
 mod Lists
 mod Telling
 mod Told

@@ -2,6 +2,8 @@
 ghost use Rattle.std.specs.Prelude.{◌≡◌, ◌&&◌, OnOk, IfOk};
 ghost use Rattle.tree_visit.specs.Kinds.{kind_label};
 ghost use Rattle.tree_visit.specs.Nodes.{node_tree, children_forest};
+ghost use Rattle.swc_ast.specs.Parts.{ident_tree};
+ghost use Rattle.tree_leaves.specs.Leaves.{leaf_tree};
 ghost use Rattle.swc_names.specs.Ids.{optional};
 ghost use Rattle.dce_rules.specs.Uses.{declared_among};
 ghost use Rattle.dce_uses.specs.Noted as noted;
@@ -20,6 +22,7 @@ use crate::table::Table;
 use crate::tally::Tally;
 use std::alloc::AllocError;
 use swc_ast::Ident;
+use tree_leaves::{Leaf, leaf_of};
 use tree_visit::{Children, Kind, Node, Opened};
 
 /// What a node says of the name that it reads or writes.
@@ -54,7 +57,44 @@ impl Table {
         ensures notes { OnOk result (Notes self.old self.new (λ f x. noted.noted f x place (node_tree n.entry))) }
         ensures seen { IfOk result (λ s. Sees s (node_tree n.entry)) }
     {
+        match leaf_of(n) {
+            Some(leaf) => self.count_leaf(leaf, place),
+            None => self.count_node(n, place),
+        }
+    }
+
+    /// The same, by what the tree is and its children.
+    #[cycle(count)]
+    #[inline(always)]
+    fn count_node(&mut self, n: Node<'_>, place: Place) -> Result<Seen, AllocError>
+        ensures notes { OnOk result (Notes self.old self.new (λ f x. noted.noted f x place (node_tree n.entry))) }
+        ensures seen { IfOk result (λ s. Sees s (node_tree n.entry)) }
+    {
         self.count_opened(n.open(), place)
+    }
+
+    /// The same of a name or a literal.
+    #[inline(always)]
+    #[tactic(auto, using(crate::proofs::Plain::literal_noted, crate::proofs::Plain::literal_seen))]
+    fn count_leaf(&mut self, leaf: Leaf<'_>, place: Place) -> Result<Seen, AllocError>
+        ensures notes { OnOk result (Notes self.old self.new (λ f x. noted.noted f x place (leaf_tree leaf.entry))) }
+        ensures seen { IfOk result (λ s. Sees s (leaf_tree leaf.entry)) }
+    {
+        match leaf {
+            Leaf::Name(name) => self.count_name(name, place),
+            Leaf::Literal(_) => Ok(Seen::nothing()),
+        }
+    }
+
+    /// The same of a name that is read.
+    #[inline(always)]
+    #[tactic(auto, using(crate::proofs::Plain::name_noted, crate::proofs::Plain::name_seen))]
+    fn count_name(&mut self, name: &Ident, place: Place) -> Result<Seen, AllocError>
+        ensures notes { OnOk result (Notes self.old self.new (λ f x. noted.noted f x place (ident_tree name.now))) }
+        ensures seen { IfOk result (λ s. Sees s (ident_tree name.now)) }
+    {
+        self.note_named(Kind::Read(name), place)?;
+        Ok(Seen::nothing().with(Kind::Read(name)))
     }
 
     /// The same of a node that was opened.

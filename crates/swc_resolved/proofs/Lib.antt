@@ -7,6 +7,7 @@ pub mod Halves
 pub mod Binding
 pub mod Specifiers
 pub mod Beside
+pub mod Plain
 pub mod Good
 pub mod Placed
 pub mod Verdict

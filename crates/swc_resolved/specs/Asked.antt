@@ -15,9 +15,13 @@ own_fit core_too l cs = if core_too then (good_names l && good_shape l cs) && ow
 abbrev pub own_good : Bool → Targets → Label → Forest → Bool
 own_good core_too g l cs = own_fit core_too l cs && (jump_is_aimed l g && own_apart l cs)
 
+-- each node of a tree is as validity and the core want it, where this is asked for
+abbrev pub fit : Bool → Tree → Bool
+fit core_too t = if core_too then valid t && core_here t else true
+
 -- the same of each node of a tree
 abbrev pub good : Bool → Targets → Tree → Bool
-good core_too g t = (if core_too then valid t && core_here t else true) && (aimed g t && apart t)
+good core_too g t = fit core_too t && (aimed g t && apart t)
 
 abbrev pub good_all : Bool → Targets → Forest → Bool
 good_all core_too g ts = (if core_too then valid_all ts && all_core_here ts else true) && (aimed_all g ts && apart_all ts)

@@ -49,7 +49,7 @@ fn has_number_in_range(kind: Kind<'_>) -> bool
     }
 }
 
-fn is_in_range(z: i64) -> bool
+pub(crate) fn is_in_range(z: i64) -> bool
     ensures { result ≡ in_range z }
 {
     z.unsigned_abs() <= GREATEST

@@ -8,6 +8,7 @@ mod exports;
 mod functions;
 mod here;
 mod jumps;
+mod leaves;
 mod names;
 mod resolved;
 mod scopes;

@@ -11,9 +11,11 @@ ghost use Rattle.swc_resolved.specs.Asked.{own_fit, own_good, good, good_all, Pa
 use crate::apart::is_own_apart;
 use crate::here::is_own_core;
 use crate::jumps::{Targets, is_jump_aimed, joined};
+use crate::leaves::is_leaf_fit;
 use crate::names::Taken;
 use std::alloc::{AllocError, Global};
 use swc_debug::{has_good_names, has_good_shape};
+use tree_leaves::leaf_of;
 use tree_visit::{Children, Kind, Node};
 
 /// Whether the node's names and its children are as validity wants them and the node is core by itself, where this is asked for.
@@ -64,8 +66,26 @@ impl<'a> Taken<'a> {
     /// good. Fails where memory is refused.
     #[cycle(walk)]
     #[inline(always)]
-    #[tactic(auto, using(crate::proofs::Good::own_binds_again))]
     fn walk(
+        &mut self,
+        n: Node<'a>,
+        core_too: bool,
+        g: &Targets<'_>,
+        alloc: Global,
+    ) -> Result<bool, AllocError>
+        ensures { IfOk result (λ b. Passes b (good core_too (targets g.now) (node_tree n.entry)) (is_taken self.old) (is_taken self.new) (λ x. scopes x (node_tree n.entry))) }
+    {
+        match leaf_of(n) {
+            Some(leaf) => Ok(is_leaf_fit(leaf, core_too)),
+            None => self.walk_opened(n, core_too, g, alloc),
+        }
+    }
+
+    /// The same, by what the tree is and its children.
+    #[cycle(walk)]
+    #[inline(always)]
+    #[tactic(auto, using(crate::proofs::Good::own_binds_again))]
+    fn walk_opened(
         &mut self,
         n: Node<'a>,
         core_too: bool,

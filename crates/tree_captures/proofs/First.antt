@@ -131,13 +131,13 @@ nobody (Some x) h = absurd (false≢true (sym h))
 
 -- how deep the walk is
 
-pub children_fall : (t : Tree) (cs : Forest) → children_of t ≡ cs → forest_size cs * 9 + 8 < tree_size t * 9
+pub children_fall : (t : Tree) (cs : Forest) → children_of t ≡ cs → forest_size cs * 9 + 8 < tree_size t * 9 + 7
 children_fall t cs is = let smaller = opened_smaller t cs is in omega (arith, smaller)
 
-pub child_falls : (t : Tree) (ts us cs : Forest) → us ≡ t ⊳ ts → forest_size us ≤ forest_size cs → tree_size t * 9 < forest_size cs * 9 + 1
+pub child_falls : (t : Tree) (ts us cs : Forest) → us ≡ t ⊳ ts → forest_size us ≤ forest_size cs → tree_size t * 9 + 8 < forest_size cs * 9 + 1
 child_falls t ts us cs is h = omega (arith, ap forest_size is, h)
 
-pub first_falls : (t : Tree) (ts us : Forest) → us ≡ t ⊳ ts → tree_size t * 9 < forest_size us * 9
+pub first_falls : (t : Tree) (ts us : Forest) → us ≡ t ⊳ ts → tree_size t * 9 + 8 < forest_size us * 9
 first_falls t ts us is = omega (arith, ap forest_size is)
 
 pub rest_falls : (t : Tree) (ts us : Forest) → us ≡ t ⊳ ts → forest_size ts * 9 + 8 < forest_size us * 9

@@ -8,6 +8,7 @@ ghost use Rattle.tree_captures.specs.Captured.{spelled as label_spelled, no_scop
 ghost use Rattle.tree_captures.specs.Views.{told, sight, Tells, captures};
 ghost use Rattle.swc_resolved.specs.Names.{names as names_of};
 ghost use Rattle.swc_resolved.specs.Scopes.{own_names};
+ghost use Rattle.tree_leaves.specs.Leaves.{leaf_tree};
 ghost use Rattle.tree_visit.specs.Kinds.{kind_label};
 ghost use Rattle.tree_visit.specs.Nodes.{node_tree, children_forest};
 
@@ -17,6 +18,7 @@ use std::alloc::{AllocError, Global};
 use swc_ast::{Ident, Module, Script};
 use swc_debug::{has_good_names, has_good_shape};
 use swc_resolved::{Half, Name, Part, add_body, add_names, add_own_names, half_of, has_default};
+use tree_leaves::{Leaf, leaf_of};
 use tree_visit::{Children, Kind, Node};
 
 /// The reason why a tree can't be printed.
@@ -75,8 +77,44 @@ fn fault_of<'a>(s: Seen<'a>) -> Option<Fault<'a>>
 /// is as it was.
 #[cycle(captures)]
 #[inline(always)]
-#[tactic(auto, using(crate::proofs::First::children_fall, crate::proofs::First::found_here, crate::proofs::First::found_below))]
 fn first_in<'a>(
+    n: Node<'a>,
+    table: &mut Table<'a>,
+    is_valid: bool,
+    alloc: Global,
+) -> Result<Seen<'a>, AllocError>
+    ensures sight { IfOk result (λ s. sight s ≡ seen (captured (captures table.old) (node_tree n.entry)) (is_valid && valid (node_tree n.entry))) }
+    ensures kept { IfOk result (λ s. s.captured ≡ None → captures table.new ≡ captures table.old) }
+{
+    match leaf_of(n) {
+        Some(leaf) => Ok(leaf_seen(leaf, &*table, is_valid)),
+        None => first_in_opened(n, table, is_valid, alloc),
+    }
+}
+
+/// What is seen of a name or a literal.
+#[inline(always)]
+#[tactic(auto, using(crate::proofs::Plain::name_sight, crate::proofs::Plain::literal_sight))]
+fn leaf_seen<'a>(leaf: Leaf<'a>, table: &Table<'a>, is_valid: bool) -> Seen<'a>
+    ensures { sight result ≡ seen (captured (captures table.now) (leaf_tree leaf.entry)) (is_valid && valid (leaf_tree leaf.entry)) }
+{
+    match leaf {
+        Leaf::Name(name) => Seen {
+            captured: own_captured(Kind::Read(name), table),
+            is_valid: is_valid && has_good_names(Kind::Read(name)),
+        },
+        Leaf::Literal(_) => Seen {
+            captured: None,
+            is_valid,
+        },
+    }
+}
+
+/// The same, by what the node is and its children.
+#[cycle(captures)]
+#[inline(always)]
+#[tactic(auto, using(crate::proofs::First::children_fall, crate::proofs::First::found_here, crate::proofs::First::found_below))]
+fn first_in_opened<'a>(
     n: Node<'a>,
     table: &mut Table<'a>,
     is_valid: bool,

@@ -9,8 +9,8 @@ use Rattle.tree_captures.specs.Views.{sight, captures}
 use Rattle.tree_captures.proofs.First.{found_below, found_among, goes_on, alone, one_is, nobody, alone_falls}
 use Rattle.tree_captures.proofs.captures.+captures.Goals as goal
 
-pub first_in-returns-clause-sight : goal.first_in-returns-clause-sight
-first_in-returns-clause-sight t c =
+pub first_in_opened-returns-clause-sight : goal.first_in_opened-returns-clause-sight
+first_in_opened-returns-clause-sight t c =
     let opened = c.open-opened.ensures in
     subst (λ x. IfOk c.first_below.result (λ s. sight s ≡ x))
     (found_below (captures c.args.table.now) (node_tree c.args.n) (kind_label c.open-opened.result.kind) (children_forest c.open-opened.result.children) c.own_captured-own.result c.args.is_valid c.stays_valid-is_good.result opened.0 opened.1 c.own_captured-own.ensures (sym c.is_some.ensures ∙ c.if-is_some.false) c.stays_valid-is_good.ensures)

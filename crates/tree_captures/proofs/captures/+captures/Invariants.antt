@@ -8,7 +8,10 @@ use Rattle.tree_captures.specs.Views.{captures}
 use Rattle.tree_captures.proofs.captures.+captures.Given as goal
 
 abbrev pub decreases-first_in : goal.decreases-first_in
-decreases-first_in l = tree_size (node_tree l.n) * 9
+decreases-first_in l = tree_size (node_tree l.n) * 9 + 8
+
+abbrev pub decreases-first_in_opened : goal.decreases-first_in_opened
+decreases-first_in_opened l = tree_size (node_tree l.n) * 9 + 7
 
 abbrev pub decreases-first_below : goal.decreases-first_below
 decreases-first_below l = forest_size (children_forest l.children) * 9 + 8

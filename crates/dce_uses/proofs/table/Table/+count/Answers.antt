@@ -41,17 +41,17 @@ count_all-returns-clause-seen t c = sees_all c.loop-child.seen (children_forest 
 pub count_all-count-requires : goal.count_all-count-requires
 count_all-count-requires t c = (let h = child_falls (node_tree c.in-Some.child) (children_forest c.in-Some.rest) (children_forest c.loop-child.left) (children_forest c.args.children) (c.next.ensures ∙ ap next_forest c.in-Some.is) c.loop-child.invariant.2 in omega (arith, h, c.decreases), tt)
 
-pub count-count_opened-requires : goal.count-count_opened-requires
-count-count_opened-requires t c = (let h = children_fall (node_tree c.args.n) (children_forest c.open.result.children) c.open.ensures.1 in omega (arith, h, c.decreases), tt)
+pub count_node-count_opened-requires : goal.count_node-count_opened-requires
+count_node-count_opened-requires t c = (let h = children_fall (node_tree c.args.n) (children_forest c.open.result.children) c.open.ensures.1 in omega (arith, h, c.decreases), tt)
 
-pub count-returns-clause-notes : goal.count-returns-clause-notes
-count-returns-clause-notes t c =
+pub count_node-returns-clause-notes : goal.count_node-returns-clause-notes
+count_node-returns-clause-notes t c =
     on_ok_weaker c.count_opened.result
     (counted_as c.args.self.now c.count_opened.new.self c.args.place (node_tree c.args.n) (kind_label c.open.result.kind) (children_forest c.open.result.children) c.open.ensures.0 c.open.ensures.1)
     c.count_opened.ensures.notes
 
-pub count-returns-clause-seen : goal.count-returns-clause-seen
-count-returns-clause-seen t c =
+pub count_node-returns-clause-seen : goal.count_node-returns-clause-seen
+count_node-returns-clause-seen t c =
     IfOk-weaker c.count_opened.result (λ s. Sees s (opened_tree c.open.result)) (λ s. Sees s (node_tree c.args.n))
     (λ s. seen_as (node_tree c.args.n) (kind_label c.open.result.kind) (children_forest c.open.result.children) s c.open.ensures.0 c.open.ensures.1)
     c.count_opened.ensures.seen

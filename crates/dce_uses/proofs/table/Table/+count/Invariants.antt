@@ -7,7 +7,10 @@ use Rattle.dce_uses.proofs.Seeing.{SeenSo}
 use Rattle.dce_uses.proofs.table.Table.+count.Given as goal
 
 abbrev pub decreases-count : goal.decreases-count
-decreases-count l = tree_size (node_tree l.n) * 3
+decreases-count l = tree_size (node_tree l.n) * 3 + 2
+
+abbrev pub decreases-count_node : goal.decreases-count_node
+decreases-count_node l = tree_size (node_tree l.n) * 3 + 1
 
 abbrev pub decreases-count_opened : goal.decreases-count_opened
 decreases-count_opened l = forest_size (children_forest l.opened.children) * 3 + 2

@@ -8,22 +8,26 @@ use Rattle.swc_resolved.specs.Scopes.{Binds}
 use Rattle.swc_resolved.specs.Asked.{own_good, good, good_all, Passes}
 use Rattle.swc_resolved.proofs.Aimed.{plain_below, plain_already, no_texts}
 use Rattle.swc_resolved.proofs.Sizes.{children_fall, child_falls, rest_within}
+use Rattle.swc_resolved.proofs.Plain.{leaf_passes}
 use Rattle.swc_resolved.proofs.Good.{own_fails, last_below, first_fails, rest_decides, rest_binds}
 use Rattle.swc_resolved.proofs.names.Taken.+walk.Goals as goal
 
 pub walk_all-walk-requires : goal.walk_all-walk-requires
 walk_all-walk-requires t c = (let h = child_falls (node_tree c.in-Some.child) (children_forest c.in-Some.rest) (children_forest c.loop-child.left) (children_forest c.args.children) (c.next.ensures ∙ ap next_forest c.in-Some.is) c.loop-child.invariant.2 in omega (arith, h, c.decreases), tt)
 
-pub walk-walk_below-requires : goal.walk-walk_below-requires
-walk-walk_below-requires t c = (let h = children_fall (node_tree c.args.n) (children_forest c.open-opened.result.children) c.open-opened.ensures.1 in omega (arith, h, c.decreases), tt)
+pub walk_opened-walk_below-requires : goal.walk_opened-walk_below-requires
+walk_opened-walk_below-requires t c = (let h = children_fall (node_tree c.args.n) (children_forest c.open-opened.result.children) c.open-opened.ensures.1 in omega (arith, h, c.decreases), tt)
 
-pub walk-returns-then-not-branch : goal.walk-returns-then-not-branch
-walk-returns-then-not-branch t c =
+pub walk-returns-in-Some : goal.walk-returns-in-Some
+walk-returns-in-Some t c = leaf_passes c.is_leaf_fit.result c.args.core_too (targets c.args.g.now) (node_tree c.args.n) c.in-Some.leaf (is_taken c.args.self.now) c.in-Some.ensures c.is_leaf_fit.ensures
+
+pub walk_opened-returns-then-not-branch : goal.walk_opened-returns-then-not-branch
+walk_opened-returns-then-not-branch t c =
     let l = kind_label c.open-opened.result.kind in let cs = children_forest c.open-opened.result.children in let g = targets c.args.g.now in
     own_fails c.args.core_too g (node_tree c.args.n) l cs (is_taken c.args.self.now) (is_taken c.args.self.now) (λ x. scopes x (node_tree c.args.n)) c.open-opened.ensures.0 c.open-opened.ensures.1 (sym c.in_ok-is_own_good.ensures ∙ c.if-not-branch.true)
 
-pub walk-returns : goal.walk-returns
-walk-returns t c =
+pub walk_opened-returns : goal.walk_opened-returns
+walk_opened-returns t c =
     let l = kind_label c.open-opened.result.kind in let cs = children_forest c.open-opened.result.children in let g = targets c.args.g.now in
     let own : own_good c.args.core_too g l cs ≡ true = sym c.in_ok-is_own_good.ensures ∙ c.if-not-branch.false in
     let first = subst (λ b. Binds b (is_taken c.args.self.now) (is_taken c.bind_own.new.self) (λ x. own_scopes x l cs)) c.if-not-branch-2.false c.in_ok-bind_own.ensures in
