@@ -1,5 +1,5 @@
 //! What is promised of the work of the program and of what flags give, for edits that must fail: each function here calls the
-//! one that it is named after, under the same contract.
+//! one that its comment names, under the same contract.
 #![tactic(auto)]
 
 mod given;

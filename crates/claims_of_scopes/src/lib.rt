@@ -6,4 +6,6 @@ mod captures;
 mod resolved;
 
 pub use captures::first_fault;
-pub use resolved::{is_core, is_core_and_resolved, is_resolved, is_valid};
+pub use resolved::{
+    is_core, is_core_and_resolved, is_resolved, is_script_core, is_script_resolved, is_valid,
+};
