@@ -156,7 +156,7 @@ module _ {p : Pass} {F : Facts} {E : Last} {lex : Name → Bool} (sure : Sure p 
       by l (no_body i e) k h g = subst (λ us. Rights (links F E) F lex G (declared (joined us T))) (sym (e (M sure l ss cs s))) g
 
   -- tests and bodies
-  case_splits : {C1 C2 : Name → Bool} (t : Tree) (ts : Forest) → Splits (waiting F ts) C1 C2 → Splits (waiting F (t ⊳ ts)) C1 C2
+  case_splits : {C₁ C₂ : Name → Bool} (t : Tree) (ts : Forest) → Splits (waiting F ts) C₁ C₂ → Splits (waiting F (t ⊳ ts)) C₁ C₂
   case_splits t ts h = record { first = λ x e. wider x (h.first x e); second = λ x e. wider x (h.second x e); apart = h.apart }
     where
       wider : (x : Name) → waiting F ts x ≡ true → waiting F (t ⊳ ts) x ≡ true

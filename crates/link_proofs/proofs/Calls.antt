@@ -79,14 +79,14 @@ module _ {L : Links} {mark : ℕ} (P : Proper L mark) (n : ℕ) (call call' : Va
       → Ends L (Own B c.env) (Fine L) w s (bind_params (eval mark n call) ps vs c s) (bind_params (linked_eval L mark n call') ps vs c s)
   unfolding bind_params and_then
   params_ends no_params vs w c hc hv s p h = gives_safe Undefined tt s h
-  params_ends {G} {B} (a_param x {cs = cs} {ts} B1 B2 q u i f hs hp) vs w c hc hv s p h =
+  params_ends {G} {B} (a_param x {cs = cs} {ts} B₁ B₂ q u i f hs hp) vs w c hc hv s p h =
       value (λ a r m k z. params_ends hp (rest_values vs) a c (context_up m hc) (fines_up L m (rest_values vs) (rest_fine L w vs hv)) r z k) (param_value_safe (both_each hs) (first_value vs) w c hc (first_fine L w vs hv) s h)
     where
       Next : Type 0
       Next =
-          (a : World) (r : State) → Grown w a → FineState L a r → Pend L B2 c.env r → Ends L (Own B2 c.env) (Fine L) a r (bind_params (eval mark n call) ts (rest_values vs) c r) (bind_params (linked_eval L mark n call') ts (rest_values vs) c r)
+          (a : World) (r : State) → Grown w a → FineState L a r → Pend L B₂ c.env r → Ends L (Own B₂ c.env) (Fine L) a r (bind_params (eval mark n call) ts (rest_values vs) c r) (bind_params (linked_eval L mark n call') ts (rest_values vs) c r)
 
-      next : (a : World) (r : State) → Grown w a → Pend L B c.env r → Next → {o i : Outcome Value} → Ends L (Own B1 c.env) (Fine L) a r o i
+      next : (a : World) (r : State) → Grown w a → Pend L B c.env r → Next → {o i : Outcome Value} → Ends L (Own B₁ c.env) (Fine L) a r o i
           → Ends L (Own B c.env) (Fine L) a r (and_then o (λ z. bind_params (eval mark n call) ts (rest_values vs) c)) (and_then i (λ z. bind_params (linked_eval L mark n call') ts (rest_values vs) c))
       next a r g k go (done {t = t} l m z) = after (later_freer (λ x i e. (q.first x e.0, e.1)) l) (freer (λ x i e. (q.second x e.0, e.1)) (go _ t (grown_on g l.worlds) m (pend_later (pend_fewer q.second k) q.apart l)))
       next a r g k go (jump l m z) = jump (later_freer (λ x i e. (q.first x e.0, e.1)) l) m z

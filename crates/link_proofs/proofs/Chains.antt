@@ -28,11 +28,11 @@ module _ {L : Links} {mark : ℕ} (P : Proper L mark) {G : Ground} {B : Name →
   unfolding run_all and_then
   chain_nil ms ns h = record { at = λ w c hc s p k. h.at w c hc s p k }
 
-  pub chain_cons : {B1 B2 : Name → Bool} (d e : Meaning) (ds es ms ns : List Meaning) → Splits B B1 B2 → Sets L G B1 d e → ChainSets L G B2 ds es ms ns → ChainSets L G B (d ∷ ds) (e ∷ es) ms ns
+  pub chain_cons : {B₁ B₂ : Name → Bool} (d e : Meaning) (ds es ms ns : List Meaning) → Splits B B₁ B₂ → Sets L G B₁ d e → ChainSets L G B₂ ds es ms ns → ChainSets L G B (d ∷ ds) (e ∷ es) ms ns
   unfolding run_all and_then
-  chain_cons {B1} {B2} d e ds es ms ns q h hs = record { at = λ w c hc s p k. go w c hc s p (h.at w c hc s (pend_fewer q.first p) k) }
+  chain_cons {B₁} {B₂} d e ds es ms ns q h hs = record { at = λ w c hc s p k. go w c hc s p (h.at w c hc s (pend_fewer q.first p) k) }
     where
-      go : (w : World) (c : Context) → FineContext L w G c → (s : State) → Pend L B c.env s → {o r : Outcome Value} → Ends L (Own B1 c.env) (Fine L) w s o r
+      go : (w : World) (c : Context) → FineContext L w G c → (s : State) → Pend L B c.env s → {o r : Outcome Value} → Ends L (Own B₁ c.env) (Fine L) w s o r
           → Ends L (Own B c.env) (Fine L) w s (and_then (and_then o (λ v. run_all ds c)) (λ v. run_all ms c)) (and_then (and_then r (λ v. run_all es c)) (λ v. run_all ns c))
       go w c hc s p (done {t = t} l k r) = after (later_freer (λ x i e. (q.first x e.0, e.1)) l) (freer (λ x i e. (q.second x e.0, e.1)) (hs.at _ c (context_up l.worlds hc) t (pend_later (pend_fewer q.second p) q.apart l) k))
       go w c hc s p (jump l k r) = jump (later_freer (λ x i e. (q.first x e.0, e.1)) l) k r

@@ -212,27 +212,27 @@ module _ {L : Links} {mark : ℕ} (P : Proper L mark) where
   -- cases of a switch, whose bodies set the names that wait
   pub data CasesMean (G : Ground) : (Name → Bool) → List Case → List Case → Type 0 where
     no_case : {B : Name → Bool} → CasesMean G B [] []
-    a_default : {B : Name → Bool} {m n : Meaning} {ks ls : List Case} (B1 B2 : Name → Bool) → Splits B B1 B2 → Sets L G B1 m n → CasesMean G B2 ks ls → CasesMean G B ((None, m) ∷ ks) ((None, n) ∷ ls)
-    a_test : {B : Name → Bool} {t u m n : Meaning} {ks ls : List Case} (B1 B2 : Name → Bool) → Splits B B1 B2 → Safe L G t u → Sets L G B1 m n → CasesMean G B2 ks ls → CasesMean G B ((Some t, m) ∷ ks) ((Some u, n) ∷ ls)
+    a_default : {B : Name → Bool} {m n : Meaning} {ks ls : List Case} (B₁ B₂ : Name → Bool) → Splits B B₁ B₂ → Sets L G B₁ m n → CasesMean G B₂ ks ls → CasesMean G B ((None, m) ∷ ks) ((None, n) ∷ ls)
+    a_test : {B : Name → Bool} {t u m n : Meaning} {ks ls : List Case} (B₁ B₂ : Name → Bool) → Splits B B₁ B₂ → Safe L G t u → Sets L G B₁ m n → CasesMean G B₂ ks ls → CasesMean G B ((Some t, m) ∷ ks) ((Some u, n) ∷ ls)
 
   module _ {G : Ground} where
     bodies_sets : {B : Name → Bool} {ks ls : List Case} → CasesMean G B ks ls → Sets L G B (run_all (bodies_from ks)) (run_all (bodies_from ls))
     bodies_sets no_case = sets_nil
-    bodies_sets (a_default B1 B2 q h hs) = sets_cons _ _ q h (bodies_sets hs)
-    bodies_sets (a_test B1 B2 q t h hs) = sets_cons _ _ q h (bodies_sets hs)
+    bodies_sets (a_default B₁ B₂ q h hs) = sets_cons _ _ q h (bodies_sets hs)
+    bodies_sets (a_test B₁ B₂ q t h hs) = sets_cons _ _ q h (bodies_sets hs)
 
     default_sets : {B : Name → Bool} {ks ls : List Case} → CasesMean G B ks ls → Sets L G B (run_all (default_bodies ks)) (run_all (default_bodies ls))
     default_sets no_case = sets_nil
-    default_sets (a_default B1 B2 q h hs) = sets_cons _ _ q h (bodies_sets hs)
-    default_sets (a_test B1 B2 q t h hs) = sets_more q.second (default_sets hs)
+    default_sets (a_default B₁ B₂ q h hs) = sets_cons _ _ q h (bodies_sets hs)
+    default_sets (a_test B₁ B₂ q t h hs) = sets_more q.second (default_sets hs)
 
     -- what a discriminant selects, and then does
     selected_ends : {D B : Name → Bool} {ks ls : List Case} → CasesMean G D ks ls → ((x : Name) → D x ≡ true → B x ≡ true) → (xs ys : List Meaning) → Sets L G B (run_all xs) (run_all ys) → (v : Value) (w : World) (c : Context) → FineContext L w G c → (s : State) → Pend L B c.env s → FineState L w s
         → Ends L (Own B c.env) (Fine L) w s (and_then (selected ks xs v c s) (λ bs. run_all bs c)) (and_then (selected ls ys v c s) (λ bs. run_all bs c))
     unfolding selected and_then
     selected_ends no_case q xs ys hx v w c hc s p h = hx.at w c hc s p h
-    selected_ends (a_default B1 B2 o g hs) q xs ys hx v w c hc s p h = selected_ends hs (λ x e. q x (o.second x e)) xs ys hx v w c hc s p h
-    selected_ends {D} {B} (a_test {t = m} {u = n} {m = b} {n = b'} {ks} {ls} B1 B2 o ht g hs) q xs ys hx v w c hc s p h = test (λ a r g k i. selected_ends hs (λ x e. q x (o.second x e)) xs ys hx v a c (context_up g hc) r k i) (ht.at w c hc s h)
+    selected_ends (a_default B₁ B₂ o g hs) q xs ys hx v w c hc s p h = selected_ends hs (λ x e. q x (o.second x e)) xs ys hx v w c hc s p h
+    selected_ends {D} {B} (a_test {t = m} {u = n} {m = b} {n = b'} {ks} {ls} B₁ B₂ o ht g hs) q xs ys hx v w c hc s p h = test (λ a r g k i. selected_ends hs (λ x e. q x (o.second x e)) xs ys hx v a c (context_up g hc) r k i) (ht.at w c hc s h)
       where
         choose : ((a : World) (r : State) → Grown w a → Pend L B c.env r → FineState L a r → Ends L (Own B c.env) (Fine L) a r (and_then (selected ks xs v c r) (λ bs. run_all bs c)) (and_then (selected ls ys v c r) (λ bs. run_all bs c))) → (a : World) (r : State) → Grown w a → Pend L B c.env r → FineState L a r → (e : Option Bool)
             → Ends L (Own B c.env) (Fine L) a r (and_then (and_then (in_core e r) (λ same. chosen same (b ∷ bodies_from ks) (selected ks xs v c))) (λ bs. run_all bs c)) (and_then (and_then (in_core e r) (λ same. chosen same (b' ∷ bodies_from ls) (selected ls ys v c))) (λ bs. run_all bs c))

@@ -98,11 +98,11 @@ module _ {L : Links} where
   unfolding run_all
   sets_nil = record { at = λ w c hc s p hs. gives_safe Undefined tt s hs }
 
-  pub sets_cons : {G : Ground} {B B1 B2 : Name → Bool} {m n : Meaning} (ms ns : List Meaning) → Splits B B1 B2 → Sets L G B1 m n → Sets L G B2 (run_all ms) (run_all ns) → Sets L G B (run_all (m ∷ ms)) (run_all (n ∷ ns))
+  pub sets_cons : {G : Ground} {B B₁ B₂ : Name → Bool} {m n : Meaning} (ms ns : List Meaning) → Splits B B₁ B₂ → Sets L G B₁ m n → Sets L G B₂ (run_all ms) (run_all ns) → Sets L G B (run_all (m ∷ ms)) (run_all (n ∷ ns))
   unfolding run_all and_then
-  sets_cons {G} {B} {B1} {B2} {m} {n} ms ns q h hs = record { at = λ w c hc s p k. go w c hc s p (h.at w c hc s (pend_fewer q.first p) k) }
+  sets_cons {G} {B} {B₁} {B₂} {m} {n} ms ns q h hs = record { at = λ w c hc s p k. go w c hc s p (h.at w c hc s (pend_fewer q.first p) k) }
     where
-      go : (w : World) (c : Context) → FineContext L w G c → (s : State) → Pend L B c.env s → {o r : Outcome Value} → Ends L (Own B1 c.env) (Fine L) w s o r → Ends L (Own B c.env) (Fine L) w s (and_then o (λ v. run_all ms c)) (and_then r (λ v. run_all ns c))
+      go : (w : World) (c : Context) → FineContext L w G c → (s : State) → Pend L B c.env s → {o r : Outcome Value} → Ends L (Own B₁ c.env) (Fine L) w s o r → Ends L (Own B c.env) (Fine L) w s (and_then o (λ v. run_all ms c)) (and_then r (λ v. run_all ns c))
       go w c hc s p (done {t = t} l k r) = after (later_freer (λ x i e. (q.first x e.0, e.1)) l) (freer (λ x i e. (q.second x e.0, e.1)) (hs.at _ c (context_up l.worlds hc) t (pend_later (pend_fewer q.second p) q.apart l) k))
       go w c hc s p (jump l k r) = jump (later_freer (λ x i e. (q.first x e.0, e.1)) l) k r
       go w c hc s p (outside o) = outside _

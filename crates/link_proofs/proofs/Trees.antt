@@ -191,11 +191,11 @@ module _ {L : Links} {mark : ℕ} (P : Proper L mark) (n : ℕ) (call call' : Ca
       items_sets no_items = sets_nil
       items_sets (a_declaration k {ss} {ds} {ts} h) = declaration_sets P _ _ (evals mark n call ds) (linked_evals L mark n call' ds) _ _ (variable_runs k ss ds) (variable_linked k ss ds) (chain_sets h)
       items_sets (an_export D {ss} {d} {ts} i h) = sets_more i (export_sets (eval mark n call d) (linked_eval L mark n call' d) _ _ _ _ (export_runs ss d) (export_linked ss d) (items_sets h))
-      items_sets (an_item {t = t} {ts} B1 B2 q h hs) = sets_cons _ _ q (begins_sets h) (items_sets hs)
+      items_sets (an_item {t = t} {ts} B₁ B₂ q h hs) = sets_cons _ _ q (begins_sets h) (items_sets hs)
 
       chain_sets : {G : Ground} {B : Name → Bool} {ds ts : Forest} → Chain L G B ds ts → ChainSets L G B (evals mark n call ds) (linked_evals L mark n call' ds) (evals mark n call ts) (linked_evals L mark n call' ts)
       chain_sets (chain_end h) = chain_nil P _ _ (items_sets h)
-      chain_sets (chain_item {d = d} {ds} {ts} B1 B2 q h hs) = chain_cons P _ _ _ _ _ _ q (begins_sets h) (chain_sets hs)
+      chain_sets (chain_item {d = d} {ds} {ts} B₁ B₂ q h hs) = chain_cons P _ _ _ _ _ _ q (begins_sets h) (chain_sets hs)
       chain_sets (chain_settles y p {ss} {t} {ds} {ts} e g i hs) = chain_settle P y p _ _ (eval mark n call t) (linked_eval L mark n call' t) _ _ _ _ e g (init_inits P n call call' y e i) (declarator_runs y ss t) (declarator_linked y ss t) (chain_sets hs)
 
       pub begins_sets : {G : Ground} {B : Name → Bool} {t : Tree} → Begins L G B t → Sets L G B (eval mark n call t) (linked_eval L mark n call' t)
@@ -213,6 +213,6 @@ module _ {L : Links} {mark : ℕ} (P : Proper L mark) (n : ℕ) (call call' : Ca
       cases_mean (d ∷ ds) no_cases = no_case
       cases_mean [] last_case = no_case
       cases_mean (d ∷ ds) last_case = no_case
-      cases_mean [] (a_case B1 B2 q ht hb hs) = no_case
-      cases_mean (true ∷ ds) (a_case B1 B2 q ht hb hs) = a_default B1 B2 q (begins_sets hb) (cases_mean ds hs)
-      cases_mean (false ∷ ds) (a_case B1 B2 q ht hb hs) = a_test B1 B2 q (good_safe ht) (begins_sets hb) (cases_mean ds hs)
+      cases_mean [] (a_case B₁ B₂ q ht hb hs) = no_case
+      cases_mean (true ∷ ds) (a_case B₁ B₂ q ht hb hs) = a_default B₁ B₂ q (begins_sets hb) (cases_mean ds hs)
+      cases_mean (false ∷ ds) (a_case B₁ B₂ q ht hb hs) = a_test B₁ B₂ q (good_safe ht) (begins_sets hb) (cases_mean ds hs)

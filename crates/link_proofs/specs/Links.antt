@@ -195,10 +195,10 @@ literal_value NullLit = Some Null
 literal_value _ = None
 
 -- names that wait are those of a first part or of a second
-pub record Splits (B B1 B2 : Name → Bool) : Type 0 where
-  pub first : (x : Name) → B1 x ≡ true → B x ≡ true
-  pub second : (x : Name) → B2 x ≡ true → B x ≡ true
-  pub apart : (x : Name) → B1 x ≡ true → B2 x ≡ true → ⊥
+pub record Splits (B B₁ B₂ : Name → Bool) : Type 0 where
+  pub first : (x : Name) → B₁ x ≡ true → B x ≡ true
+  pub second : (x : Name) → B₂ x ≡ true → B x ≡ true
+  pub apart : (x : Name) → B₁ x ≡ true → B₂ x ≡ true → ⊥
 
 -- a node whose children have no scope of their own, and are run where it is
 abbrev pub is_simple : Label → Bool
@@ -320,7 +320,7 @@ mutual
 
   pub data GoodParams (L : Links) : Ground → (Name → Bool) → Forest → Type 0 where
     no_params : {G : Ground} {B : Name → Bool} → GoodParams L G B ε
-    a_param : {G : Ground} {B : Name → Bool} (x : Name) {ss : List Span} {cs ts : Forest} (B1 B2 : Name → Bool) → Splits B B1 B2 → L.link x ≡ None → L.known x ≡ None → ParamFits L B1 x → Goods L G cs → GoodParams L G B2 ts → GoodParams L G B (node (Param x) ss cs ⊳ ts)
+    a_param : {G : Ground} {B : Name → Bool} (x : Name) {ss : List Span} {cs ts : Forest} (B₁ B₂ : Name → Bool) → Splits B B₁ B₂ → L.link x ≡ None → L.known x ≡ None → ParamFits L B₁ x → Goods L G cs → GoodParams L G B₂ ts → GoodParams L G B (node (Param x) ss cs ⊳ ts)
 
   pub data BodyGood (L : Links) : Ground → (Name → Bool) → Tree → Type 0 where
     body_list : {G : Ground} {B : Name → Bool} {ss : List Span} {ts : Forest} → Items L G B ts → BodyGood L G B (node Body ss ts)
@@ -331,13 +331,13 @@ mutual
     no_items : {G : Ground} {B : Name → Bool} → Items L G B ε
     a_declaration : {G : Ground} {B : Name → Bool} (k : VarDeclKind) {ss : List Span} {ds ts : Forest} → Chain L G B ds ts → Items L G B (node (VarDecl k) ss ds ⊳ ts)
     an_export : {G : Ground} {B : Name → Bool} (D : Name → Bool) {ss : List Span} {d : Tree} {ts : Forest} → ((x : Name) → D x ≡ true → B x ≡ true) → Items L G D (d ⊳ ts) → Items L G B (node ExportDecl ss (d ⊳ ε) ⊳ ts)
-    an_item : {G : Ground} {B : Name → Bool} {t : Tree} {ts : Forest} (B1 B2 : Name → Bool) → Splits B B1 B2 → Begins L G B1 t → Items L G B2 ts → Items L G B (t ⊳ ts)
+    an_item : {G : Ground} {B : Name → Bool} {t : Tree} {ts : Forest} (B₁ B₂ : Name → Bool) → Splits B B₁ B₂ → Begins L G B₁ t → Items L G B₂ ts → Items L G B (t ⊳ ts)
 
   -- declarators of one declaration and the items behind it; a variable that takes the value of a name, or a known value, is
   -- settled for what follows
   pub data Chain (L : Links) : Ground → (Name → Bool) → Forest → Forest → Type 0 where
     chain_end : {G : Ground} {B : Name → Bool} {ts : Forest} → Items L G B ts → Chain L G B ε ts
-    chain_item : {G : Ground} {B : Name → Bool} {d : Tree} {ds ts : Forest} (B1 B2 : Name → Bool) → Splits B B1 B2 → Begins L G B1 d → Chain L G B2 ds ts → Chain L G B (d ⊳ ds) ts
+    chain_item : {G : Ground} {B : Name → Bool} {d : Tree} {ds ts : Forest} (B₁ B₂ : Name → Bool) → Splits B B₁ B₂ → Begins L G B₁ d → Chain L G B₂ ds ts → Chain L G B (d ⊳ ds) ts
     chain_settles : {G : Ground} {B : Name → Bool} (y : Name) (p : Put) {ss : List Span} {t : Tree} {ds ts : Forest} → L.settles y ≡ p → G.sets y ≡ true → Init L G t p → Chain L (settle y (put_name y p) G) B ds ts → Chain L G B (node (Declarator Var y) ss (t ⊳ ε) ⊳ ds) ts
 
   pub data Begins (L : Links) : Ground → (Name → Bool) → Tree → Type 0 where
@@ -354,7 +354,7 @@ mutual
   pub data Cases (L : Links) : Ground → (Name → Bool) → Forest → Type 0 where
     no_cases : {G : Ground} {B : Name → Bool} → Cases L G B ε
     last_case : {G : Ground} {B : Name → Bool} {t : Tree} → Cases L G B (t ⊳ ε)
-    a_case : {G : Ground} {B : Name → Bool} {t b : Tree} {cs : Forest} (B1 B2 : Name → Bool) → Splits B B1 B2 → Good L G t → Begins L G B1 b → Cases L G B2 cs → Cases L G B (t ⊳ b ⊳ cs)
+    a_case : {G : Ground} {B : Name → Bool} {t b : Tree} {cs : Forest} (B₁ B₂ : Name → Bool) → Splits B B₁ B₂ → Good L G t → Begins L G B₁ b → Cases L G B₂ cs → Cases L G B (t ⊳ b ⊳ cs)
 
 -- the scope of a module or a script, where nothing is in scope yet
 pub record OpensWhole (L : Links) (B binds : Name → Bool) (ts : Forest) : Type 0 where
