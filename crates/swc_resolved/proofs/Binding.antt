@@ -1,61 +1,16 @@
 -- Scopes that are bound one by one: what is taken behind them, and what is bound twice.
-use Rattle.std.proofs.Common.{◌≡◌, ℕ, ◌+◌, ◌≤◌, Bool, true, false, ◌||◌, List, [], ◌∷◌, ◌++◌, refl, sym, ap, ap₂, ◌∙◌, arith, ◌⊎◌, inl, inr}
-use Rattle.std.proofs.lemmas.Bool.{false≢true, or_cases}
-use Rattle.std.proofs.lemmas.Result.{IfOk-weaker}
-use Rattle.std.specs.List.{list_any}
-use Rattle.std.specs.Prelude.{if◌then◌else◌, Result, IfOk}
+use Rattle.std.proofs.Common.{◌≡◌, ℕ, ◌+◌, ◌≤◌, Bool, true, false, ◌||◌, List, [], ◌++◌, refl, sym, ap, ap₂, ◌∙◌, arith}
+use Rattle.std.proofs.lemmas.Bool.{false≢true}
+use Rattle.std.specs.Prelude.{if◌then◌else◌}
 use Rattle.swc_ast.specs.Tree as tree
-use Rattle.swc_ast.specs.Tree.{Name, same_name, Label, Tree, node, Forest, ε, ◌⊳◌, label_of, children_of}
+use Rattle.swc_ast.specs.Tree.{Name, Label, Tree, node, Forest, ε, ◌⊳◌, label_of, children_of}
 use Rattle.swc_ast.specs.Scope.{is_function, has_name, is_found, vars_all, declared, body_declares, module_binds, import_names, param_names, case_statements}
 use Rattle.swc_ast.specs.Meaning.{head_names, first_tree}
 use Rattle.swc_ast.specs.Resolved.{one_if, catch_name, has_default, params_of, body_of, first_names, declared_names, function_scopes, own_scopes, scopes, scopes_all}
-use Rattle.static_proofs.proofs.Names.{same_name_path, same_name_itself, has_name_append, found_first}
+use Rattle.static_proofs.proofs.Names.{has_name_append, found_first}
 use Rattle.swc_resolved.specs.declared.names.Name.{Name as Key}
 use Rattle.swc_resolved.specs.Names.{names}
 use Rattle.swc_resolved.specs.Scopes.{own_names, opens_scope, Binds}
-
--- a scope of which some name is taken
-
-raise : (a b : Bool) → one_if b ≤ one_if (a || b)
-raise true true = omega arith
-raise true false = omega arith
-raise false b = omega arith
-
-two : (a b c : Bool) → a ≡ true → b ≡ true → 2 ≤ one_if a + one_if (b || c)
-two a b c f g = omega (arith, ap one_if f, ap (λ d. one_if (d || c)) g)
-
-again : (old : Name → Bool) (y : Name) (xs : List Name) → (old y ≡ true) ⊎ (list_any old xs ≡ true) → (list_any old xs ≡ true → (x : Name) × (2 ≤ one_if (old x) + one_if (has_name x xs))) → (x : Name) × (2 ≤ one_if (old x) + one_if (has_name x (y ∷ xs)))
-again old y xs (inl e) behind = (y, two (old y) (same_name y y) (has_name y xs) e (same_name_itself y))
-again old y xs (inr e) behind = let p = behind e in (p.0, (let more = raise (same_name p.0 y) (has_name p.0 xs) in let least = p.1 in omega (arith, more, least)))
-
-pub bound_again : (old : Name → Bool) (xs : List Name) → list_any old xs ≡ true → (x : Name) × (2 ≤ one_if (old x) + one_if (has_name x xs))
-bound_again old [] h = absurd (false≢true h)
-bound_again old (y ∷ xs) h = again old y xs (or_cases (old y) (list_any old xs) h) (bound_again old xs)
-
--- a scope of which no name is taken
-
-or_false : (a b : Bool) → (a || b) ≡ false → (a ≡ false) × (b ≡ false)
-or_false true b h = absurd (false≢true (sym h))
-or_false false b h = (refl, h)
-
-untaken : (old : Name → Bool) (x y : Name) (b : Bool) → old y ≡ false → (same_name x y ≡ true) ⊎ (b ≡ true) → (b ≡ true → old x ≡ false) → old x ≡ false
-untaken old x y b e (inl g) behind = ap old (same_name_path x y g) ∙ e
-untaken old x y b e (inr g) behind = behind g
-
-none_taken : (old : Name → Bool) (x : Name) (xs : List Name) → list_any old xs ≡ false → has_name x xs ≡ true → old x ≡ false
-none_taken old x [] h i = absurd (false≢true i)
-none_taken old x (y ∷ xs) h i = let p = or_false (old y) (list_any old xs) h in untaken old x y (has_name x xs) p.0 (or_cases (same_name x y) (has_name x xs) i) (none_taken old x xs p.1)
-
-one_of : (a b : Bool) → (b ≡ true → a ≡ false) → one_if (a || b) ≡ one_if a + one_if b
-one_of true true h = absurd (false≢true (sym (h refl)))
-one_of true false h = refl
-one_of false true h = refl
-one_of false false h = refl
-
-pub bound_once : (old new : Name → Bool) (xs : List Name) → list_any old xs ≡ false → ((x : Name) → new x ≡ (old x || has_name x xs)) → (x : Name) → one_if (new x) ≡ one_if (old x) + one_if (has_name x xs)
-bound_once old new xs h grown x = ap one_if (grown x) ∙ one_of (old x) (has_name x xs) (none_taken old x xs h)
-
--- names that are added one by one
 
 -- scopes behind scopes
 
@@ -69,12 +24,6 @@ binds_then false old mid new first more all e h i = (i.0, (let f = h i.0 in let 
 
 pub stops_here : (old mid new : Name → Bool) (first more all : Name → ℕ) → ((x : Name) → all x ≡ first x + more x) → Binds false old mid first → Binds false old new all
 stops_here old mid new first more all e h = (h.0, (let g = h.1 in let k = e h.0 in omega (arith, g, k)))
-
-pub last_binds_as : {E : Type 0} (r : Result Bool E) (old new : Name → Bool) (more all : Name → ℕ) → ((x : Name) → more x ≡ all x) → IfOk r (λ b. Binds b old new more) → IfOk r (λ b. Binds b old new all)
-last_binds_as r old new more all e h = IfOk-weaker r (λ b. Binds b old new more) (λ b. Binds b old new all) (λ b. binds_as b old new more all e) h
-
-pub last_binds : {E : Type 0} (r : Result Bool E) (old mid new : Name → Bool) (first more all : Name → ℕ) → ((x : Name) → all x ≡ first x + more x) → Binds true old mid first → IfOk r (λ b. Binds b mid new more) → IfOk r (λ b. Binds b old new all)
-last_binds r old mid new first more all e h i = IfOk-weaker r (λ b. Binds b mid new more) (λ b. Binds b old new all) (λ b. binds_then b old mid new first more all e h) i
 
 -- a function's scopes
 

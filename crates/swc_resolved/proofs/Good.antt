@@ -4,11 +4,13 @@ use Rattle.std.proofs.lemmas.Bool.{false≢true, and_parts}
 use Rattle.std.proofs.lemmas.Result.{IfOk-weaker}
 use Rattle.std.specs.Prelude.{◌&&◌, if◌then◌else◌, Result, IfOk}
 use Rattle.swc_ast.specs.Tree.{Name, Label, Tree, node, Forest, ε, ◌⊳◌, label_of, children_of}
+use Rattle.swc_ast.specs.Core.{numbers_fit}
 use Rattle.swc_ast.specs.Resolved.{Targets, below, jump_is_aimed, aimed, aimed_all, apart, apart_all, one_if, own_scopes, scopes, scopes_all}
 use Rattle.swc_ast.specs.Valid.{good_names, good_shape, valid, valid_all}
-use Rattle.swc_resolved.specs.Scopes.{own_apart, Binds}
-use Rattle.swc_resolved.specs.Here.{own_core, core_here, all_core_here}
-use Rattle.swc_resolved.specs.Asked.{own_fit, own_good, good, good_all, Passes}
+use Rattle.swc_resolved.specs.Scopes.{own_apart, Binds, BindsNamed}
+use Rattle.swc_resolved.specs.declared.scopes.Bound.TheVariants as bound
+use Rattle.swc_resolved.specs.Here.{own_core, named_once, core_here, all_core_here}
+use Rattle.swc_resolved.specs.Asked.{own_fit, own_good, own_named, good, good_all, Passes}
 use Rattle.swc_resolved.proofs.Binding as binding
 
 -- two conjunctions, part by part
@@ -20,32 +22,68 @@ exchanged false b c d = refl
 
 -- a node and its children
 
-valid_split : (v : Bool) (l : Label) (ss : _) (cs : Forest) → (if v then valid (node l ss cs) && core_here (node l ss cs) else true) ≡ (own_fit v l cs && (if v then valid_all cs && all_core_here cs else true))
-valid_split true l ss cs = exchanged (good_names l && good_shape l cs) (valid_all cs) (own_core l cs) (all_core_here cs)
+-- all that is asked of a node by itself
+abbrev pub own_all : Bool → Targets → Label → Forest → Bool
+own_all v g l cs = own_good v g l cs && own_named v l cs
+
+three : (a b c : Bool) → (a && (b && c)) ≡ ((a && b) && c)
+three true b c = refl
+three false b c = refl
+
+turned : (a b c : Bool) → ((a && c) && b) ≡ ((a && b) && c)
+turned true true true = refl
+turned true true false = refl
+turned true false true = refl
+turned true false false = refl
+turned false b c = refl
+
+valid_split : (v : Bool) (l : Label) (ss : _) (cs : Forest) → (if v then valid (node l ss cs) && core_here (node l ss cs) else true) ≡ ((own_fit v l cs && own_named v l cs) && (if v then valid_all cs && all_core_here cs else true))
+valid_split true l ss cs = exchanged (good_names l && good_shape l cs) (valid_all cs) (own_core l cs) (all_core_here cs) ∙ ap (λ b. b && (valid_all cs && all_core_here cs)) (three (good_names l && good_shape l cs) (numbers_fit l) (named_once l cs))
 valid_split false l ss cs = refl
 
-split : (v : Bool) (g : Targets) (t : Tree) → good v g t ≡ (own_good v g (label_of t) (children_of t) && good_all v (below (label_of t) g) (children_of t))
+split : (v : Bool) (g : Targets) (t : Tree) → good v g t ≡ (own_all v g (label_of t) (children_of t) && good_all v (below (label_of t) g) (children_of t))
 split v g (node l ss cs) =
     ap₂ ◌&&◌ (valid_split v l ss cs) (exchanged (jump_is_aimed l g) (aimed_all (below l g) cs) (own_apart l cs) (apart_all cs))
-    ∙ exchanged (own_fit v l cs) (if v then valid_all cs && all_core_here cs else true) (jump_is_aimed l g && own_apart l cs) (aimed_all (below l g) cs && apart_all cs)
+    ∙ exchanged (own_fit v l cs && own_named v l cs) (if v then valid_all cs && all_core_here cs else true) (jump_is_aimed l g && own_apart l cs) (aimed_all (below l g) cs && apart_all cs)
+    ∙ ap (λ b. b && good_all v (below l g) cs) (turned (own_fit v l cs) (jump_is_aimed l g && own_apart l cs) (own_named v l cs))
 
-pub split_as : (b : Bool) (v : Bool) (g : Targets) (t : Tree) (l : Label) (cs : Forest) → label_of t ≡ l → children_of t ≡ cs → own_good v g l cs ≡ b → good v g t ≡ (b && good_all v (below l g) cs)
+pub split_as : (b : Bool) (v : Bool) (g : Targets) (t : Tree) (l : Label) (cs : Forest) → label_of t ≡ l → children_of t ≡ cs → own_all v g l cs ≡ b → good v g t ≡ (b && good_all v (below l g) cs)
 split_as b v g t l cs labelled held own = split v g t ∙ cc (labelled, held, own)
 
 pub own_fails : (v : Bool) (g : Targets) (t : Tree) (l : Label) (cs : Forest) (old new : Name → Bool) (all : Name → ℕ) → label_of t ≡ l → children_of t ≡ cs → own_good v g l cs ≡ false → Passes false (good v g t) old new all
-own_fails v g t l cs old new all labelled held own = λ is. absurd (false≢true (sym (split_as false v g t l cs labelled held own) ∙ is))
+own_fails v g t l cs old new all labelled held own = λ is. absurd (false≢true (sym (split_as false v g t l cs labelled held (ap (λ b. b && own_named v l cs) own)) ∙ is))
 
-pub own_binds_again : (q : Bool) (old mid new : Name → Bool) (t : Tree) (l : Label) (cs : Forest) → label_of t ≡ l → children_of t ≡ cs → Binds false old mid (λ x. own_scopes x l cs) → Passes false q old new (λ x. scopes x t)
-own_binds_again q old mid new t l cs labelled held again = λ is. binding.stops_here old mid new (λ x. own_scopes x l cs) (λ x. scopes_all x cs) (λ x. scopes x t) (λ x. binding.scopes_as x t l cs labelled held) again
+-- the names of its scope are good where all is
+pub named_well : (v : Bool) (g : Targets) (t : Tree) (l : Label) (cs : Forest) → label_of t ≡ l → children_of t ≡ cs → good v g t ≡ true → own_named v l cs ≡ true
+named_well v g t l cs labelled held is = (and_parts (own_good v g l cs) (own_named v l cs) (and_parts (own_all v g l cs) (good_all v (below l g) cs) (sym (split_as (own_all v g l cs) v g t l cs labelled held refl) ∙ is)).0).1
 
-below_decides : (b : Bool) (v : Bool) (g : Targets) (t : Tree) (l : Label) (cs : Forest) (old mid new : Name → Bool) → label_of t ≡ l → children_of t ≡ cs → own_good v g l cs ≡ true → Binds true old mid (λ x. own_scopes x l cs) → Passes b (good_all v (below l g) cs) mid new (λ x. scopes_all x cs) → Passes b (good v g t) old new (λ x. scopes x t)
+-- a node with a scope that binds a taken name, or declares one twice where the core is asked for
+pub own_binds_again : (v : Bool) (g : Targets) (old mid new : Name → Bool) (t : Tree) (l : Label) (cs : Forest) → label_of t ≡ l → children_of t ≡ cs → Passes false (own_named v l cs) old mid (λ x. own_scopes x l cs) → Passes false (good v g t) old new (λ x. scopes x t)
+own_binds_again v g old mid new t l cs labelled held again = λ is. binding.stops_here old mid new (λ x. own_scopes x l cs) (λ x. scopes_all x cs) (λ x. scopes x t) (λ x. binding.scopes_as x t l cs labelled held) (again (named_well v g t l cs labelled held is))
+
+below_decides : (b : Bool) (v : Bool) (g : Targets) (t : Tree) (l : Label) (cs : Forest) (old mid new : Name → Bool) → label_of t ≡ l → children_of t ≡ cs → own_all v g l cs ≡ true → Binds true old mid (λ x. own_scopes x l cs) → Passes b (good_all v (below l g) cs) mid new (λ x. scopes_all x cs) → Passes b (good v g t) old new (λ x. scopes x t)
 below_decides true v g t l cs old mid new labelled held own first rest =
     (split_as true v g t l cs labelled held own ∙ rest.0, binding.binds_then true old mid new (λ x. own_scopes x l cs) (λ x. scopes_all x cs) (λ x. scopes x t) (λ x. binding.scopes_as x t l cs labelled held) first rest.1)
 below_decides false v g t l cs old mid new labelled held own first rest = λ is.
     binding.binds_then false old mid new (λ x. own_scopes x l cs) (λ x. scopes_all x cs) (λ x. scopes x t) (λ x. binding.scopes_as x t l cs labelled held) first (rest (sym (split_as true v g t l cs labelled held own) ∙ is))
 
-pub last_below : {E : Type 0} (r : Result Bool E) (v : Bool) (g : Targets) (t : Tree) (l : Label) (cs : Forest) (old mid new : Name → Bool) → label_of t ≡ l → children_of t ≡ cs → own_good v g l cs ≡ true → Binds true old mid (λ x. own_scopes x l cs) → IfOk r (λ b. Passes b (good_all v (below l g) cs) mid new (λ x. scopes_all x cs)) → IfOk r (λ b. Passes b (good v g t) old new (λ x. scopes x t))
-last_below r v g t l cs old mid new labelled held own first rest = IfOk-weaker r (λ b. Passes b (good_all v (below l g) cs) mid new (λ x. scopes_all x cs)) (λ b. Passes b (good v g t) old new (λ x. scopes x t)) (λ b. below_decides b v g t l cs old mid new labelled held own first) rest
+pub last_below : {E : Type 0} (r : Result Bool E) (v : Bool) (g : Targets) (t : Tree) (l : Label) (cs : Forest) (old mid new : Name → Bool) → label_of t ≡ l → children_of t ≡ cs → own_good v g l cs ≡ true → Passes true (own_named v l cs) old mid (λ x. own_scopes x l cs) → IfOk r (λ b. Passes b (good_all v (below l g) cs) mid new (λ x. scopes_all x cs)) → IfOk r (λ b. Passes b (good v g t) old new (λ x. scopes x t))
+last_below r v g t l cs old mid new labelled held own first rest = IfOk-weaker r (λ b. Passes b (good_all v (below l g) cs) mid new (λ x. scopes_all x cs)) (λ b. Passes b (good v g t) old new (λ x. scopes x t)) (λ b. below_decides b v g t l cs old mid new labelled held (ap₂ ◌&&◌ own first.0) first.1) rest
+
+-- how a node's scopes were bound
+
+named_if : (v : Bool) (l : Label) (cs : Forest) → named_once l cs ≡ true → own_named v l cs ≡ true
+named_if true l cs once = once
+named_if false l cs once = refl
+
+-- each name was new, and so none is declared twice
+pub passes_once : (v : Bool) (l : Label) (cs : Forest) (old new : Name → Bool) (all : Name → ℕ) → BindsNamed bound.Once old new all (named_once l cs) → Passes true (own_named v l cs) old new all
+passes_once v l cs old new all binds = (named_if v l cs binds.1, binds.0)
+
+-- it was asked whether one is declared twice
+pub passes_again : (b q : Bool) (old new : Name → Bool) (all : Name → ℕ) → b ≡ q → Binds true old new all → Passes b q old new all
+passes_again true q old new all is binds = (sym is, binds)
+passes_again false q old new all is binds = λ good. absurd (false≢true (is ∙ good))
 
 -- trees in a row
 

@@ -13,3 +13,5 @@ pub mod Placed
 pub mod Verdict
 pub mod Once
 pub mod Lists
+pub mod Fresh
+pub mod NamedOnce

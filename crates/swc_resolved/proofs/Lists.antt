@@ -9,7 +9,7 @@ use Rattle.swc_resolved.specs.declared.names.Name as key
 use Rattle.swc_resolved.proofs.Once.{none_turned, one_alone}
 
 -- no name of one list stands in the other, and the other way round
-none_swapped : (xs ys : List Name) → none_in ys xs ≡ none_in xs ys
+pub none_swapped : (xs ys : List Name) → none_in ys xs ≡ none_in xs ys
 none_swapped xs ys = none_turned xs xs ys (λ y. refl)
 
 -- a conjunction whose first part is known

@@ -1,12 +1,12 @@
 -- Names that stand once in a list, as they are put in a set one by one, and lists with no name in common.
-use Rattle.std.proofs.Common.{◌≡◌, ℕ, zero, suc, Bool, true, false, not, ◌||◌, ◌&&◌, if◌then◌else◌, nat_le, refl, ap, ◌∙◌, sym, List, [], ◌∷◌, length, take, drop, get_or, ◌-◌, ◌≤◌, ◌<◌, arith}
+use Rattle.std.proofs.Common.{◌≡◌, ℕ, zero, suc, Bool, true, false, not, ◌||◌, ◌&&◌, if◌then◌else◌, nat_le, refl, ap, ap₂, ◌∙◌, sym, List, [], ◌∷◌, ◌++◌, length, take, drop, get_or, ◌-◌, ◌≤◌, ◌<◌, arith}
 use Rattle.std.proofs.lemmas.Bool.{false≢true}
 use Rattle.std.proofs.lemmas.List.{take_all}
 use Rattle.std.proofs.Math.Dec.{leb-suc-suc, leb-suc-zero}
 use Rattle.swc_ast.specs.Tree.{Name, same_name}
 use Rattle.swc_ast.specs.Core.{times_in, once_each, none_in}
 use Rattle.swc_ast.specs.Scope.{has_name}
-use Rattle.static_proofs.proofs.Names.{same_name_itself, same_name_swap, has_times, none_said, none_show}
+use Rattle.static_proofs.proofs.Names.{same_name_itself, same_name_swap, has_name_append, has_times, none_said, none_show}
 use Rattle.swc_resolved.specs.Names.{name, names}
 use Rattle.swc_resolved.specs.declared.names.Name as key
 use Rattle.swc_resolved.proofs.Sets.{or_turned}
@@ -63,6 +63,31 @@ none_behind x (y ∷ ys) ms = cc (same_name_swap y x, none_behind x ys ms) ∙ t
     turned false false true d = refl
     turned false false false d = refl
 
+pub none_in_none : (xs : List Name) → none_in xs [] ≡ true
+none_in_none [] = refl
+none_in_none (x ∷ xs) = none_in_none xs
+
+joined : (xs ys : List Name) → distinct (xs ++ ys) ≡ (distinct xs && (distinct ys && none_in ys xs))
+joined [] ys = alone (distinct ys) ∙ sym (ap (λ b. distinct ys && b) (none_in_none ys))
+  where
+    alone : (b : Bool) → b ≡ (b && true)
+    alone true = refl
+    alone false = refl
+joined (x ∷ xs) ys =
+    ap₂ (λ a b. not a && b) (has_name_append x xs ys) (joined xs ys) ∙ turned (has_name x xs) (has_name x ys) (distinct xs) (distinct ys) (none_in ys xs)
+    ∙ sym (ap (λ b. distinct (x ∷ xs) && (distinct ys && b)) (none_behind x ys xs))
+  where
+    turned : (a b c d e : Bool) → (not (a || b) && (c && (d && e))) ≡ ((not a && c) && (d && (not b && e)))
+    turned true b c d e = refl
+    turned false true true true e = refl
+    turned false true true false e = refl
+    turned false true false d e = refl
+    turned false false c d e = refl
+
+-- names that stand once in a list of two parts
+pub once_joined : (xs ys : List Name) → once_each (xs ++ ys) (xs ++ ys) ≡ (once_each xs xs && (once_each ys ys && none_in ys xs))
+once_joined xs ys = once_is_distinct (xs ++ ys) ∙ joined xs ys ∙ sym (ap₂ (λ a b. a && (b && none_in ys xs)) (once_is_distinct xs) (once_is_distinct ys))
+
 fresh_is : (ms xs : List Name) → fresh ms xs ≡ (none_in xs ms && distinct xs)
 fresh_is ms [] = refl
 fresh_is ms (x ∷ xs) = ap (λ b. not (has_name x ms) && b) (fresh_is (x ∷ ms) xs ∙ ap (λ b. b && distinct xs) (none_behind x xs ms)) ∙ turned (has_name x ms) (has_name x xs) (none_in xs ms) (distinct xs)
@@ -73,10 +98,6 @@ fresh_is ms (x ∷ xs) = ap (λ b. not (has_name x ms) && b) (fresh_is (x ∷ ms
     turned false true false d = refl
     turned false false true d = refl
     turned false false false d = refl
-
-pub none_in_none : (xs : List Name) → none_in xs [] ≡ true
-none_in_none [] = refl
-none_in_none (x ∷ xs) = none_in_none xs
 
 pub one_starts : (ms xs : List Name) → ms ≡ [] → fresh ms xs ≡ once_each xs xs
 one_starts ms xs is = ap (λ ns. fresh ns xs) is ∙ fresh_is [] xs ∙ ap (λ b. b && distinct xs) (none_in_none xs) ∙ sym (once_is_distinct xs)
@@ -104,7 +125,7 @@ all_end false g h = h
 abbrev pub nobody : key.Name
 nobody = record { text = record { ref_ptr = (0, 0); now = [] }; context = record { 0 = 0 } }
 
-rest_is : (x : key.Name) (xs : List key.Name) → take (length (x ∷ xs) - 1) (drop 1 (x ∷ xs)) ≡ xs
+pub rest_is : (x : key.Name) (xs : List key.Name) → take (length (x ∷ xs) - 1) (drop 1 (x ∷ xs)) ≡ xs
 rest_is x xs = take_all (length (x ∷ xs) - 1) xs (omega arith)
 
 -- the step for the first of the elements that are left

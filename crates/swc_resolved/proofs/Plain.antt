@@ -1,6 +1,7 @@
 -- Names and literals: their trees bind nothing and hold no jump.
-use Rattle.std.proofs.Common.{◌≡◌, ℕ, ◌+◌, Bool, true, false, refl, sym, ap, ap₂, subst, ◌∙◌, arith}
+use Rattle.std.proofs.Common.{◌≡◌, Bool, true, false, refl, sym, ap, ap₂, subst, ◌∙◌, arith}
 use Rattle.std.proofs.lemmas.Bool.{false≢true}
+use Rattle.std.proofs.Math.Bool.{and-true}
 use Rattle.std.specs.Prelude.{◌&&◌}
 use Rattle.swc_ast.specs.declared.literals.Lit.{Lit}
 use Rattle.swc_ast.specs.declared.literals.Lit.TheVariants as lit
@@ -8,13 +9,12 @@ use Rattle.swc_ast.specs.declared.literals.Number.{Number}
 use Rattle.swc_ast.specs.declared.names.Ident.{Ident}
 use Rattle.swc_ast.specs.Core.{in_range}
 use Rattle.swc_ast.specs.Parts.{ident_name, ident_tree, lit_tree}
-use Rattle.swc_ast.specs.Resolved.{Targets, aimed, apart, one_if, own_scopes, scopes}
+use Rattle.swc_ast.specs.Resolved.{Targets, aimed, apart, own_scopes, scopes}
 use Rattle.swc_ast.specs.Tree.{Name, Tree, Read}
 use Rattle.swc_ast.specs.Valid.{good_names}
 use Rattle.tree_leaves.specs.declared.Leaf.{Leaf}
 use Rattle.tree_leaves.specs.declared.Leaf.TheVariants as a
 use Rattle.tree_leaves.specs.Leaves.{leaf_tree}
-use Rattle.swc_resolved.specs.Scopes.{Binds}
 use Rattle.swc_resolved.specs.Asked.{fit, good, Passes}
 
 -- no scope
@@ -45,19 +45,11 @@ placed g (a.Literal n) = literal_placed g n.now
 
 -- what validity and the core ask of a name and of a literal
 
-alone : (g : Bool) → g ≡ (((g && true) && true) && true)
-alone true = refl
-alone false = refl
-
 pub name_fit : (b : Bool) (n : Ident) → b ≡ good_names (Read (ident_name n)) → b ≡ fit true (ident_tree n)
-name_fit b n is = is ∙ alone (good_names (Read (ident_name n)))
-
-whole : (g : Bool) → g ≡ ((g && true) && true)
-whole true = refl
-whole false = refl
+name_fit b n is = let g = good_names (Read (ident_name n)) in is ∙ sym (and-true ((g && true) && true) ∙ and-true (g && true) ∙ and-true g)
 
 pub number_fit : (b : Bool) (l : Lit) (n : Number) → b ≡ in_range n.value → l ≡ lit.Num n → b ≡ fit true (lit_tree l)
-number_fit b l n is at = is ∙ whole (in_range n.value) ∙ sym (ap (λ k. fit true (lit_tree k)) at)
+number_fit b l n is at = let g = in_range n.value in is ∙ sym (ap (λ k. fit true (lit_tree k)) at ∙ and-true (g && true) ∙ and-true g)
 
 -- so all is asked of the node itself
 

@@ -19,6 +19,13 @@ has_key x (k ∷ ks) = ap (λ b. same_name x (name k) || b) (has_key x ks)
 pub has_kept : (free found here : Bool) → free ≡ false → found ≡ here → found ≡ (free || here)
 has_kept free found here is h = h ∙ ap (λ b. b || here) (sym is)
 
+-- a name is taken if it is free, and else as it is in the set
+pub free_taken : (free here : Bool) → free ≡ true → (free || here) ≡ true
+free_taken free here is = ap (λ b. b || here) is
+
+pub new_taken : (free here : Bool) → free ≡ false → here ≡ (free || here)
+new_taken free here is = has_kept free here here is refl
+
 pub or_turned : (a b : Bool) → (a || b) ≡ (b || a)
 or_turned true true = refl
 or_turned true false = refl
@@ -29,7 +36,15 @@ there_already : (x y : tree.Name) (b : Bool) (xs : List tree.Name) → same_name
 there_already x y true xs is h = let there = ap (λ z. has_name z xs) (same_name_path y x is) ∙ h in there ∙ sym (ap (λ b. b || true) there)
 there_already x y false xs is h = or_turned false (has_name y xs)
 
-not_false : (b : Bool) → false ≡ not b → b ≡ true
+-- a name that was taken adds nothing
+pub taken_still : (old : tree.Name → Bool) (x y : tree.Name) → old x ≡ true → old y ≡ (old y || same_name y x)
+taken_still old x y there = by_case (same_name y x) refl
+  where
+    by_case : (b : Bool) → same_name y x ≡ b → old y ≡ (old y || b)
+    by_case true is = let now = ap old (same_name_path y x is) ∙ there in now ∙ sym (ap (λ b. b || true) now)
+    by_case false is = or_turned false (old y)
+
+pub not_false : (b : Bool) → false ≡ not b → b ≡ true
 not_false true h = refl
 not_false false h = absurd (false≢true h)
 

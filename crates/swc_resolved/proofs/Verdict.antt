@@ -15,14 +15,14 @@ use Rattle.static_proofs.proofs.ShapedViews.{expr_shaped}
 use Rattle.swc_resolved.specs.Names.{is_free}
 use Rattle.swc_resolved.specs.Here.{core_here}
 use Rattle.swc_resolved.specs.Scopes.{Binds, BindsWell}
-use Rattle.swc_resolved.specs.Asked.{own_good, good, good_all, Passes, IsAsked}
+use Rattle.swc_resolved.specs.Asked.{own_good, own_named, good, good_all, Passes, IsAsked}
 use Rattle.swc_resolved.proofs.Binding.{scopes_as}
-use Rattle.swc_resolved.proofs.Good.{split_as}
+use Rattle.swc_resolved.proofs.Good.{split_as, named_well}
 use Rattle.swc_resolved.proofs.Placed.{seen, unseen, resolved_here}
 
 -- from what is bound
 
-pub bound_early : (mark : ℕ) (old new : Name → Bool) (t : Tree) (l : Label) (cs : Forest) → label_of t ≡ l → children_of t ≡ cs → ((x : Name) → old x ≡ is_free mark x) → Binds false old new (λ x. own_scopes x l cs) → BindsWell mark t → ⊥
+bound_early : (mark : ℕ) (old new : Name → Bool) (t : Tree) (l : Label) (cs : Forest) → label_of t ≡ l → children_of t ≡ cs → ((x : Name) → old x ≡ is_free mark x) → Binds false old new (λ x. own_scopes x l cs) → BindsWell mark t → ⊥
 bound_early mark old new t l cs labelled held free twice well =
     let x = twice.0 in let all = scopes_as x t l cs labelled held in let least = twice.1 in let most = well.0 x in let same = ap one_if (free x) in
     omega (arith, all, least, most, same)
@@ -89,16 +89,20 @@ all_asked true mark t is well =
 all_asked false mark t is well = let both = and_parts (aimed no_targets t) (apart t) is in resolved mark t well both.0 both.1
 
 pub badly_placed : (v : Bool) (mark : ℕ) (t : Tree) (l : Label) (cs : Forest) → label_of t ≡ l → children_of t ≡ cs → own_good v no_targets l cs ≡ false → IsTrue false ↔ IsAsked v mark t
-badly_placed v mark t l cs labelled held own = refused (λ asked. false≢true (sym (split_as false v no_targets t l cs labelled held own) ∙ asked_good v mark t asked))
+badly_placed v mark t l cs labelled held own = refused (λ asked. false≢true (sym (split_as false v no_targets t l cs labelled held (ap (λ b. b && own_named v l cs) own)) ∙ asked_good v mark t asked))
+
+-- a root with a scope that binds a taken name, or declares one twice where the core is asked for
+pub badly_named : (v : Bool) (mark : ℕ) (old new : Name → Bool) (t : Tree) (l : Label) (cs : Forest) → label_of t ≡ l → children_of t ≡ cs → ((x : Name) → old x ≡ is_free mark x) → Passes false (own_named v l cs) old new (λ x. own_scopes x l cs) → IsTrue false ↔ IsAsked v mark t
+badly_named v mark old new t l cs labelled held free fails = refused (λ asked. bound_early mark old new t l cs labelled held free (fails (named_well v no_targets t l cs labelled held (asked_good v mark t asked))) (well_asked v mark t asked))
 
 pub badly_bound : (v : Bool) (mark : ℕ) (t : Tree) → (BindsWell mark t → ⊥) → IsTrue false ↔ IsAsked v mark t
 badly_bound v mark t unbound = refused (λ asked. unbound (well_asked v mark t asked))
 
-pub decided : (b v : Bool) (mark : ℕ) (old mid new : Name → Bool) (t : Tree) (l : Label) (cs : Forest) → label_of t ≡ l → children_of t ≡ cs → own_good v no_targets l cs ≡ true → ((x : Name) → old x ≡ is_free mark x) → Binds true old mid (λ x. own_scopes x l cs) → own_exports_bound t ≡ true → Passes b (good_all v (below l no_targets) cs) mid new (λ x. scopes_all x cs) → IsTrue b ↔ IsAsked v mark t
+pub decided : (b v : Bool) (mark : ℕ) (old mid new : Name → Bool) (t : Tree) (l : Label) (cs : Forest) → label_of t ≡ l → children_of t ≡ cs → own_good v no_targets l cs ≡ true → ((x : Name) → old x ≡ is_free mark x) → Passes true (own_named v l cs) old mid (λ x. own_scopes x l cs) → own_exports_bound t ≡ true → Passes b (good_all v (below l no_targets) cs) mid new (λ x. scopes_all x cs) → IsTrue b ↔ IsAsked v mark t
 decided true v mark old mid new t l cs labelled held own free first exports passes =
-    ((λ is. all_asked v mark t (split_as true v no_targets t l cs labelled held own ∙ passes.0) (bound_late true mark old mid new t l cs labelled held free first exports passes.1)), (λ asked. refl))
+    ((λ is. all_asked v mark t (split_as true v no_targets t l cs labelled held (ap₂ (λ a c. a && c) own first.0) ∙ passes.0) (bound_late true mark old mid new t l cs labelled held free first.1 exports passes.1)), (λ asked. refl))
 decided false v mark old mid new t l cs labelled held own free first exports passes =
-    refused (λ asked. bound_late false mark old mid new t l cs labelled held free first exports (passes (sym (split_as true v no_targets t l cs labelled held own) ∙ asked_good v mark t asked)) (well_asked v mark t asked))
+    refused (λ asked. bound_late false mark old mid new t l cs labelled held free first.1 exports (passes (sym (split_as true v no_targets t l cs labelled held (ap₂ (λ a c. a && c) own first.0)) ∙ asked_good v mark t asked)) (well_asked v mark t asked))
 
 -- a whole module or script, which is core where each of its nodes is so by itself
 pub core_told : (b : Bool) (mark : ℕ) (t : Tree) → IsShaped t → seen t ≡ [] → (IsTrue b ↔ IsAsked true mark t) → IsTrue b ↔ IsCore t × IsResolved mark t

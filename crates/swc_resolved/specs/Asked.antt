@@ -2,16 +2,21 @@
 -- what the core asks of each node.
 use Rattle.std.specs.Prelude.{ℕ, ◌≡◌, Bool, true, false, ◌&&◌, if◌then◌else◌}
 use Rattle.swc_ast.specs.Tree.{Name, Label, Tree, Forest}
+use Rattle.swc_ast.specs.Core.{numbers_fit}
 use Rattle.swc_ast.specs.Resolved.{Targets, jump_is_aimed, aimed, aimed_all, apart, apart_all, IsResolved}
 use Rattle.swc_ast.specs.Valid.{good_names, good_shape, valid, valid_all}
-use Rattle.swc_resolved.specs.Here.{own_core, core_here, all_core_here}
+use Rattle.swc_resolved.specs.Here.{named_once, core_here, all_core_here}
 use Rattle.swc_resolved.specs.Scopes.{own_apart, Binds}
 
--- a node is as validity and the core want it, where this is asked for; children aside
+-- a node is as validity wants it and its number is in range, where this is asked for; children aside
 abbrev pub own_fit : Bool → Label → Forest → Bool
-own_fit core_too l cs = if core_too then (good_names l && good_shape l cs) && own_core l cs else true
+own_fit core_too l cs = if core_too then (good_names l && good_shape l cs) && numbers_fit l else true
 
--- a node that is a jump has a target, and so on; children aside
+-- the scope that a node opens declares no name twice, where this is asked for
+abbrev pub own_named : Bool → Label → Forest → Bool
+own_named core_too l cs = if core_too then named_once l cs else true
+
+-- a node that is a jump has a target, and so on; children and the names of its scope aside
 abbrev pub own_good : Bool → Targets → Label → Forest → Bool
 own_good core_too g l cs = own_fit core_too l cs && (jump_is_aimed l g && own_apart l cs)
 

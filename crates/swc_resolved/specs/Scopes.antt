@@ -6,6 +6,8 @@ use Rattle.swc_ast.specs.Scope.{is_function, option_name, declared, case_stateme
 use Rattle.swc_ast.specs.Meaning.{head_names, first_tree}
 use Rattle.swc_ast.specs.Resolved.{one_if, catch_name, first_names, declared_names, params_of, body_of, params_apart, scopes, own_exports_bound}
 use Rattle.swc_resolved.specs.Names.{is_free}
+use Rattle.swc_resolved.specs.declared.scopes.Bound.{Bound}
+use Rattle.swc_resolved.specs.declared.scopes.Bound.TheVariants as bound
 use Rattle.swc_resolved.specs.declared.functions.Half.{Half}
 use Rattle.swc_resolved.specs.declared.functions.Half.TheVariants as half
 
@@ -51,6 +53,19 @@ opens_scope l = is_function l
 abbrev pub Binds : Bool → (Name → Bool) → (Name → Bool) → (Name → ℕ) → Type 0
 Binds true old new more = (x : Name) → one_if (new x) ≡ one_if (old x) + more x
 Binds false old new more = (x : Name) × (2 ≤ one_if (old x) + more x)
+
+-- The same by how scopes were bound, where it is also told whether they declare no name twice: if each name was new, they do not.
+abbrev pub BindsNamed : Bound → (Name → Bool) → (Name → Bool) → (Name → ℕ) → Bool → Type 0
+BindsNamed bound.Once old new more good = Binds true old new more × (good ≡ true)
+BindsNamed bound.Again old new more good = Binds true old new more
+BindsNamed bound.Taken old new more good = Binds false old new more
+
+-- how scopes were bound and, behind them, others
+abbrev pub both : Bound → Bound → Bound
+both bound.Once b = b
+both bound.Again bound.Once = bound.Again
+both bound.Again b = b
+both bound.Taken b = bound.Taken
 
 -- a function's parameters, where one has a default, and its body declare no text in common
 abbrev pub own_apart : Label → Forest → Bool

@@ -56,6 +56,19 @@ pub(crate) fn are_apart<'a>(
 }
 
 impl<'a> NameSet<'a> {
+    /// The set of some names. Fails where memory is refused.
+    pub(crate) fn of(names: &[Name<'a>], alloc: Global) -> Result<NameSet<'a>, AllocError>
+        ensures { IfOk result (AreMembers (names_of names.now)) }
+    {
+        let mut set = NameSet::new(alloc);
+        let mut left = names;
+        while let [name, rest @ ..] = left {
+            set.insert(*name)?;
+            left = rest;
+        }
+        Ok(set)
+    }
+
     /// Whether none of some names is in the set.
     pub(crate) fn has_none(&self, names: &[Name<'a>]) -> bool
         ensures { result ≡ none_in (names_of names.now) (members self.now) }

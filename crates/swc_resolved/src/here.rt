@@ -39,7 +39,7 @@ pub fn is_own_core(
 }
 
 #[inline(always)]
-fn has_number_in_range(kind: Kind<'_>) -> bool
+pub(crate) fn has_number_in_range(kind: Kind<'_>) -> bool
     ensures { result ≡ numbers_fit (kind_label kind.entry) }
 {
     match kind {
@@ -56,7 +56,11 @@ pub(crate) fn is_in_range(z: i64) -> bool
 }
 
 #[inline(always)]
-fn is_named_once(kind: Kind<'_>, children: Children<'_>, alloc: Global) -> Result<bool, AllocError>
+pub(crate) fn is_named_once(
+    kind: Kind<'_>,
+    children: Children<'_>,
+    alloc: Global,
+) -> Result<bool, AllocError>
     ensures { IfOk result (λ b. b ≡ named_once (kind_label kind.entry) (children_forest children.entry)) }
 {
     match kind {

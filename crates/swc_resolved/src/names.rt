@@ -151,11 +151,15 @@ impl<'a> Taken<'a> {
         x.is_free(self.unresolved_mark) || self.names.contains(x)
     }
 
-    /// No further scope may bind a name. Fails where memory is refused.
-    pub(crate) fn add(&mut self, x: Name<'a>) -> Result<(), AllocError>
-        ensures { OnOk result ((y : tree.Name) → is_taken self.new y ≡ (is_taken self.old y || same_name y (name x.entry))) }
+    /// No further scope may bind a name; says whether one could until now. Fails where memory is refused.
+    pub(crate) fn add(&mut self, x: Name<'a>) -> Result<bool, AllocError>
+        ensures added { IfOk result (λ b. b ≡ not (is_taken self.old (name x.entry))) }
+        ensures names { OnOk result ((y : tree.Name) → is_taken self.new y ≡ (is_taken self.old y || same_name y (name x.entry))) }
     {
-        self.names.insert(x)?;
-        Ok(())
+        if x.is_free(self.unresolved_mark) {
+            return Ok(false);
+        }
+        let is_new = self.names.insert(x)?;
+        Ok(is_new)
     }
 }

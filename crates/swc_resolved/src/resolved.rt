@@ -84,7 +84,7 @@ pub fn is_expr_core_and_resolved(
 }
 
 /// Whether a tree is resolved, and valid and core node by node where this is asked for.
-#[tactic(auto, using(crate::proofs::Verdict::badly_placed, crate::proofs::Verdict::bound_early))]
+#[tactic(auto, using(crate::proofs::Verdict::badly_placed))]
 fn is_asked(
     n: Node<'_>,
     core_too: bool,
@@ -99,7 +99,7 @@ fn is_asked(
         return Ok(false);
     }
     let mut taken = Taken::new(unresolved_mark, alloc);
-    let is_bound = taken.bind_own(opened.kind, opened.children, alloc)?;
+    let is_bound = taken.bind_named(opened.kind, opened.children, core_too, alloc)?;
     if !is_bound {
         return Ok(false);
     }

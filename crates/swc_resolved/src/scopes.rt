@@ -1,19 +1,49 @@
 //! Scopes, and the names that they bind.
-ghost use Rattle.std.specs.Prelude.{◌≡◌, ◌||◌, IfOk, OnOk};
-ghost use Rattle.std.specs.List.{list_any};
-ghost use Rattle.swc_ast.specs.Resolved.{one_if, function_scopes, own_scopes};
-ghost use Rattle.swc_ast.specs.Scope.{has_name};
+ghost use Rattle.std.specs.Prelude.{◌≡◌, ◌&&◌, ◌||◌, not, IfOk, OnOk};
+ghost use Rattle.swc_ast.specs.Core.{good_body};
+ghost use Rattle.swc_ast.specs.Resolved.{one_if, params_of, body_of, function_scopes, own_scopes};
+ghost use Rattle.swc_ast.specs.Scope.{has_name, param_names};
 ghost use Rattle.swc_ast.specs.Tree as tree;
+ghost use Rattle.swc_ast.specs.Tree.{same_name};
 ghost use Rattle.tree_visit.specs.Kinds.{kind_label};
 ghost use Rattle.tree_visit.specs.Nodes.{children_forest};
-ghost use Rattle.swc_resolved.specs.Names.{names as names_of, is_taken};
-ghost use Rattle.swc_resolved.specs.Scopes.{Binds, opens_scope};
+ghost use Rattle.swc_resolved.specs.Names.{name, names as names_of, members, is_taken};
+ghost use Rattle.swc_resolved.specs.Here.{distinct, named_once};
+ghost use Rattle.swc_resolved.specs.Scopes.{Binds, BindsNamed, both, opens_scope};
 
 use crate::declared::{Part, add_body, add_names, add_own_names};
 use crate::functions::{Half, half_of, has_default, is_function};
-use crate::names::{Name, Taken};
+use crate::names::{Name, NameSet, Taken};
 use std::alloc::{AllocError, Global};
 use tree_visit::{Children, Kind};
+
+/// How scopes were bound.
+#[derive(Clone, Copy)]
+pub(crate) enum Bound {
+    /// each of their names was new
+    Once,
+    /// no name was taken, but one may stand twice in a scope
+    Again,
+    /// a name was taken
+    Taken,
+}
+
+impl Bound {
+    /// How scopes were bound and, behind them, others.
+    fn and(self, other: Bound) -> Bound
+        ensures { result ≡ both self other }
+    {
+        match self {
+            Bound::Once => other,
+            Bound::Again => match other {
+                Bound::Once => Bound::Again,
+                Bound::Again => Bound::Again,
+                Bound::Taken => Bound::Taken,
+            },
+            Bound::Taken => Bound::Taken,
+        }
+    }
+}
 
 /// Whether a node opens a scope.
 #[inline(always)]
@@ -31,45 +61,62 @@ fn opens_scope(kind: Kind<'_>) -> bool
 }
 
 impl<'a> Taken<'a> {
-    /// Binds the names of a scope, and says whether none of them was taken. Fails where memory is
-    /// refused.
-    fn bind_scope(&mut self, names: &[Name<'a>]) -> Result<bool, AllocError>
-        ensures { IfOk result (λ b. Binds b (is_taken self.old) (is_taken self.new) (λ x. one_if (has_name x (names_of names.now)))) }
-    {
-        if self.contains_any(names) {
-            return Ok(false);
-        }
-        self.add_all(names)?;
-        Ok(true)
-    }
-
-    fn contains_any(&self, names: &[Name<'a>]) -> bool
-        ensures { result ≡ list_any (is_taken self.now) (names_of names.now) }
+    /// Binds the names of a scope, and says how. Fails where memory is refused.
+    fn bind_scope(&mut self, names: &[Name<'a>], alloc: Global) -> Result<Bound, AllocError>
+        ensures { IfOk result (λ b. BindsNamed b (is_taken self.old) (is_taken self.new) (λ x. one_if (has_name x (names_of names.now))) (distinct (names_of names.now))) }
     {
         let mut left = names;
         while let [name, rest @ ..] = left {
-            if self.contains(*name) {
-                return true;
+            if !self.add(*name)? {
+                let done = &names[..names.len() - left.len()];
+                if !self.bind_others(left, done, alloc)? {
+                    return Ok(Bound::Taken);
+                }
+                return Ok(Bound::Again);
             }
             left = rest;
         }
-        false
+        Ok(Bound::Once)
     }
 
-    fn add_all(&mut self, names: &[Name<'a>]) -> Result<(), AllocError>
-        ensures { OnOk result ((x : tree.Name) → is_taken self.new x ≡ (is_taken self.old x || has_name x (names_of names.now))) }
+    /// Binds the names of a scope that are not among those that it has bound already, and says whether none of them was taken.
+    /// Fails where memory is refused.
+    #[inline(never)]
+    fn bind_others(
+        &mut self,
+        names: &[Name<'a>],
+        done: &[Name<'a>],
+        alloc: Global,
+    ) -> Result<bool, AllocError>
+        ensures { IfOk result (λ b. Binds b (is_taken self.old) (is_taken self.new) (λ x. one_if (has_name x (names_of names.now) && not (has_name x (names_of done.now))))) }
     {
+        let mut own = NameSet::of(done, alloc)?;
         let mut left = names;
         while let [name, rest @ ..] = left {
-            self.add(*name)?;
+            if !self.bind_other(&mut own, *name)? {
+                return Ok(false);
+            }
             left = rest;
         }
-        Ok(())
+        Ok(true)
+    }
+
+    /// Puts a name in a set and, if the set has not had it, binds it, and says whether it was not taken then. Fails where memory
+    /// is refused.
+    fn bind_other(&mut self, own: &mut NameSet<'a>, x: Name<'a>) -> Result<bool, AllocError>
+        ensures binds { IfOk result (λ b. Binds b (is_taken self.old) (is_taken self.new) (λ y. one_if (same_name y (name x.entry) && not (has_name y (members own.old))))) }
+        ensures names { OnOk result ((y : tree.Name) → has_name y (members own.new) ≡ (has_name y (members own.old) || same_name y (name x.entry))) }
+    {
+        if !own.insert(x)? {
+            return Ok(true);
+        }
+        let is_new = self.add(x)?;
+        Ok(is_new)
     }
 
     /// Binds the scopes of a function's parameters and body: one, or two beside a default.
-    fn bind_function(&mut self, children: Children<'a>, alloc: Global) -> Result<bool, AllocError>
-        ensures { IfOk result (λ b. Binds b (is_taken self.old) (is_taken self.new) (λ x. function_scopes x (children_forest children.entry))) }
+    fn bind_function(&mut self, children: Children<'a>, alloc: Global) -> Result<Bound, AllocError>
+        ensures { IfOk result (λ b. BindsNamed b (is_taken self.old) (is_taken self.new) (λ x. function_scopes x (children_forest children.entry)) (good_body (param_names (params_of (children_forest children.entry))) (body_of (children_forest children.entry)))) }
     {
         let params = half_of(children, Half::Params);
         let body = half_of(children, Half::Body);
@@ -77,29 +124,27 @@ impl<'a> Taken<'a> {
         add_names(&mut names, params, Part::Params)?;
         if !has_default(params) {
             add_body(&mut names, body)?;
-            return self.bind_scope(&names);
+            return self.bind_scope(&names, alloc);
         }
-        if !self.bind_scope(&names)? {
-            return Ok(false);
-        }
+        let outer_bound = self.bind_scope(&names, alloc)?;
         let mut inner = Vec::new(alloc);
         add_body(&mut inner, body)?;
-        self.bind_scope(&inner)
+        let inner_bound = self.bind_scope(&inner, alloc)?;
+        Ok(outer_bound.and(inner_bound))
     }
 
     /// Binds the scopes that a node opens, those of its children aside.
     #[inline(always)]
-    #[tactic(auto, using(crate::proofs::Binding::none_opened))]
     pub(crate) fn bind_own(
         &mut self,
         kind: Kind<'a>,
         children: Children<'a>,
         alloc: Global,
-    ) -> Result<bool, AllocError>
-        ensures { IfOk result (λ b. Binds b (is_taken self.old) (is_taken self.new) (λ x. own_scopes x (kind_label kind.entry) (children_forest children.entry))) }
+    ) -> Result<Bound, AllocError>
+        ensures { IfOk result (λ b. BindsNamed b (is_taken self.old) (is_taken self.new) (λ x. own_scopes x (kind_label kind.entry) (children_forest children.entry)) (named_once (kind_label kind.entry) (children_forest children.entry))) }
     {
         if !opens_scope(kind) {
-            return Ok(true);
+            return Ok(Bound::Once);
         }
         self.bind_opened(kind, children, alloc)
     }
@@ -110,17 +155,16 @@ impl<'a> Taken<'a> {
         kind: Kind<'a>,
         children: Children<'a>,
         alloc: Global,
-    ) -> Result<bool, AllocError>
-        ensures { IfOk result (λ b. Binds b (is_taken self.old) (is_taken self.new) (λ x. own_scopes x (kind_label kind.entry) (children_forest children.entry))) }
+    ) -> Result<Bound, AllocError>
+        ensures { IfOk result (λ b. BindsNamed b (is_taken self.old) (is_taken self.new) (λ x. own_scopes x (kind_label kind.entry) (children_forest children.entry)) (named_once (kind_label kind.entry) (children_forest children.entry))) }
     {
         let mut names = Vec::new(alloc);
         add_own_names(&mut names, kind, children)?;
+        let own_bound = self.bind_scope(&names, alloc)?;
         if !is_function(kind) {
-            return self.bind_scope(&names);
+            return Ok(own_bound);
         }
-        if !self.bind_scope(&names)? {
-            return Ok(false);
-        }
-        self.bind_function(children, alloc)
+        let function_bound = self.bind_function(children, alloc)?;
+        Ok(own_bound.and(function_bound))
     }
 }

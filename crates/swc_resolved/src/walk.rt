@@ -1,46 +1,57 @@
 //! One walk over a tree: what its scopes bind, whether jumps have targets and parameters stand apart, and what the core asks of
 //! each node where it is asked for.
 ghost use Rattle.std.specs.Prelude.{◌≡◌, IfOk};
-ghost use Rattle.swc_ast.specs.Resolved.{below, scopes, scopes_all};
+ghost use Rattle.swc_ast.specs.Resolved.{below, own_scopes, scopes, scopes_all};
 ghost use Rattle.tree_visit.specs.Kinds.{kind_label};
 ghost use Rattle.tree_visit.specs.Nodes.{node_tree, children_forest};
 ghost use Rattle.swc_resolved.specs.Jumps.{targets};
 ghost use Rattle.swc_resolved.specs.Names.{is_taken};
-ghost use Rattle.swc_resolved.specs.Asked.{own_fit, own_good, good, good_all, Passes};
+ghost use Rattle.swc_resolved.specs.Asked.{own_fit, own_good, own_named, good, good_all, Passes};
 
 use crate::apart::is_own_apart;
-use crate::here::is_own_core;
+use crate::here::{has_number_in_range, is_named_once};
 use crate::jumps::{Targets, is_jump_aimed, joined};
 use crate::leaves::is_leaf_fit;
 use crate::names::Taken;
+use crate::scopes::Bound;
 use std::alloc::{AllocError, Global};
 use swc_debug::{has_good_names, has_good_shape};
 use tree_leaves::leaf_of;
 use tree_visit::{Children, Kind, Node};
 
-/// Whether the node's names and its children are as validity wants them and the node is core by itself, where this is asked for.
-/// Fails where memory is refused.
+/// Whether the node's names and its children are as validity wants them and its number is in range, where this is asked for.
 #[inline(always)]
-fn is_own_fit(
+fn is_own_fit(kind: Kind<'_>, children: Children<'_>, core_too: bool) -> bool
+    ensures { result ≡ own_fit core_too (kind_label kind.entry) (children_forest children.entry) }
+{
+    if !core_too {
+        return true;
+    }
+    if !(has_good_names(kind) && has_good_shape(kind, children)) {
+        return false;
+    }
+    has_number_in_range(kind)
+}
+
+/// Whether the scope that a node opens declares no name twice, where this is asked for. Fails where memory is refused.
+#[inline(never)]
+fn is_own_named(
     kind: Kind<'_>,
     children: Children<'_>,
     core_too: bool,
     alloc: Global,
 ) -> Result<bool, AllocError>
-    ensures { IfOk result (λ b. b ≡ own_fit core_too (kind_label kind.entry) (children_forest children.entry)) }
+    ensures { IfOk result (λ b. b ≡ own_named core_too (kind_label kind.entry) (children_forest children.entry)) }
 {
     if !core_too {
         return Ok(true);
     }
-    if !(has_good_names(kind) && has_good_shape(kind, children)) {
-        return Ok(false);
-    }
-    let is_fit = is_own_core(kind, children, alloc)?;
-    Ok(is_fit)
+    let is_named = is_named_once(kind, children, alloc)?;
+    Ok(is_named)
 }
 
 /// Whether a node that is a jump has a target, a function with a default declares no text of a parameter in its body, and, where
-/// the core is asked for, the node is as validity and the core want it. Fails where memory is refused.
+/// the core is asked for, the node is as validity and the core want it, the names of its scope aside. Fails where memory is refused.
 #[inline(always)]
 pub(crate) fn is_own_good(
     kind: Kind<'_>,
@@ -51,7 +62,7 @@ pub(crate) fn is_own_good(
 ) -> Result<bool, AllocError>
     ensures { IfOk result (λ b. b ≡ own_good core_too (targets g.now) (kind_label kind.entry) (children_forest children.entry)) }
 {
-    if !is_own_fit(kind, children, core_too, alloc)? {
+    if !is_own_fit(kind, children, core_too) {
         return Ok(false);
     }
     if !is_jump_aimed(kind, *g) {
@@ -62,6 +73,28 @@ pub(crate) fn is_own_good(
 }
 
 impl<'a> Taken<'a> {
+    /// Binds the scopes that a node opens, those of its children aside, and says whether none binds a name that was taken and,
+    /// where the core is asked for, none declares one twice. Fails where memory is refused.
+    #[inline(always)]
+    pub(crate) fn bind_named(
+        &mut self,
+        kind: Kind<'a>,
+        children: Children<'a>,
+        core_too: bool,
+        alloc: Global,
+    ) -> Result<bool, AllocError>
+        ensures { IfOk result (λ b. Passes b (own_named core_too (kind_label kind.entry) (children_forest children.entry)) (is_taken self.old) (is_taken self.new) (λ x. own_scopes x (kind_label kind.entry) (children_forest children.entry))) }
+    {
+        match self.bind_own(kind, children, alloc)? {
+            Bound::Once => Ok(true),
+            Bound::Again => {
+                let is_named = is_own_named(kind, children, core_too, alloc)?;
+                Ok(is_named)
+            }
+            Bound::Taken => Ok(false),
+        }
+    }
+
     /// Binds each scope of a tree where jumps may go to `g`, and says whether none binds a name that was taken and the tree is
     /// good. Fails where memory is refused.
     #[cycle(walk)]
@@ -84,7 +117,6 @@ impl<'a> Taken<'a> {
     /// The same, by what the tree is and its children.
     #[cycle(walk)]
     #[inline(always)]
-    #[tactic(auto, using(crate::proofs::Good::own_binds_again))]
     fn walk_opened(
         &mut self,
         n: Node<'a>,
@@ -98,7 +130,7 @@ impl<'a> Taken<'a> {
         if !is_own_good(opened.kind, opened.children, core_too, g, alloc)? {
             return Ok(false);
         }
-        if !self.bind_own(opened.kind, opened.children, alloc)? {
+        if !self.bind_named(opened.kind, opened.children, core_too, alloc)? {
             return Ok(false);
         }
         self.walk_below(opened.kind, opened.children, core_too, g, alloc)

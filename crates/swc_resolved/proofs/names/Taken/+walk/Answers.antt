@@ -4,12 +4,11 @@ use Rattle.tree_visit.specs.Kinds.{kind_label}
 use Rattle.tree_visit.specs.Nodes.{node_tree, children_forest, next_forest}
 use Rattle.swc_resolved.specs.Jumps.{targets}
 use Rattle.swc_resolved.specs.Names.{is_taken}
-use Rattle.swc_resolved.specs.Scopes.{Binds}
-use Rattle.swc_resolved.specs.Asked.{own_good, good, good_all, Passes}
+use Rattle.swc_resolved.specs.Asked.{own_good, own_named, good, good_all, Passes}
 use Rattle.swc_resolved.proofs.Aimed.{plain_below, plain_already, no_texts}
 use Rattle.swc_resolved.proofs.Sizes.{children_fall, child_falls, rest_within}
 use Rattle.swc_resolved.proofs.Plain.{leaf_passes}
-use Rattle.swc_resolved.proofs.Good.{own_fails, last_below, first_fails, rest_decides, rest_binds}
+use Rattle.swc_resolved.proofs.Good.{own_fails, own_binds_again, last_below, first_fails, rest_decides, rest_binds}
 use Rattle.swc_resolved.proofs.names.Taken.+walk.Goals as goal
 
 pub walk_all-walk-requires : goal.walk_all-walk-requires
@@ -26,12 +25,18 @@ walk_opened-returns-then-not-branch t c =
     let l = kind_label c.open-opened.result.kind in let cs = children_forest c.open-opened.result.children in let g = targets c.args.g.now in
     own_fails c.args.core_too g (node_tree c.args.n) l cs (is_taken c.args.self.now) (is_taken c.args.self.now) (λ x. scopes x (node_tree c.args.n)) c.open-opened.ensures.0 c.open-opened.ensures.1 (sym c.in_ok-is_own_good.ensures ∙ c.if-not-branch.true)
 
+pub walk_opened-returns-then-not-branch-2 : goal.walk_opened-returns-then-not-branch-2
+walk_opened-returns-then-not-branch-2 t c =
+    let l = kind_label c.open-opened.result.kind in let cs = children_forest c.open-opened.result.children in let g = targets c.args.g.now in
+    own_binds_again c.args.core_too g (is_taken c.args.self.now) (is_taken c.bind_named.new.self) (is_taken c.bind_named.new.self) (node_tree c.args.n) l cs c.open-opened.ensures.0 c.open-opened.ensures.1
+    (subst (λ b. Passes b (own_named c.args.core_too l cs) (is_taken c.args.self.now) (is_taken c.bind_named.new.self) (λ x. own_scopes x l cs)) c.if-not-branch-2.true c.in_ok-bind_named.ensures)
+
 pub walk_opened-returns : goal.walk_opened-returns
 walk_opened-returns t c =
     let l = kind_label c.open-opened.result.kind in let cs = children_forest c.open-opened.result.children in let g = targets c.args.g.now in
     let own : own_good c.args.core_too g l cs ≡ true = sym c.in_ok-is_own_good.ensures ∙ c.if-not-branch.false in
-    let first = subst (λ b. Binds b (is_taken c.args.self.now) (is_taken c.bind_own.new.self) (λ x. own_scopes x l cs)) c.if-not-branch-2.false c.in_ok-bind_own.ensures in
-    last_below c.walk_below.result c.args.core_too g (node_tree c.args.n) l cs (is_taken c.args.self.now) (is_taken c.bind_own.new.self) (is_taken c.walk_below.new.self) c.open-opened.ensures.0 c.open-opened.ensures.1 own first c.walk_below.ensures
+    let first = subst (λ b. Passes b (own_named c.args.core_too l cs) (is_taken c.args.self.now) (is_taken c.bind_named.new.self) (λ x. own_scopes x l cs)) c.if-not-branch-2.false c.in_ok-bind_named.ensures in
+    last_below c.walk_below.result c.args.core_too g (node_tree c.args.n) l cs (is_taken c.args.self.now) (is_taken c.bind_named.new.self) (is_taken c.walk_below.new.self) c.open-opened.ensures.0 c.open-opened.ensures.1 own first c.walk_below.ensures
 
 pub walk_below-returns-in-empty : goal.walk_below-returns-in-empty
 walk_below-returns-in-empty t c =
