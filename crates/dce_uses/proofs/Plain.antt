@@ -1,5 +1,5 @@
 -- Names that are read, and literals: what their trees say of names.
-use Rattle.std.proofs.Common.{◌≡◌, Bool, true, false, not, refl, sym, ap, ap₂, ◌∙◌, [], ◌∷◌}
+use Rattle.std.proofs.Common.{◌≡◌, Bool, false, not, refl, sym, ap, ap₂, ◌∙◌}
 use Rattle.std.specs.Prelude.{◌&&◌, ◌||◌, if◌then◌else◌, string_bytes}
 use Rattle.swc_ast.specs.declared.literals.Lit.{Lit}
 use Rattle.swc_ast.specs.declared.literals.Lit.TheVariants as lit
@@ -26,11 +26,15 @@ by_itself c a d h i =
 read_says : (f : Fact) (x : Name) (p : Place) (n : Ident) → noted f x p (ident_tree n) ≡ by_naming f x p (Read (ident_name n))
 read_says f x p n = by_itself (is_counted f) (by_naming f x p (Read (ident_name n))) (declaring f p (Read (ident_name n))) (is_hiding f) (not p.is_inside)
 
+-- a literal names nothing
+nothing_said : (f : Fact) (p : Place) (l : Label) → (if is_counted f && false then false else ((((naming f p l && false) || (declaring f p l && false)) || false) || ((is_hiding f && false) || (is_hiding f && (not p.is_inside && false))))) ≡ false
+nothing_said f p l = by_itself (is_counted f) (naming f p l && false) (declaring f p l) (is_hiding f) (not p.is_inside) ∙ and_false (naming f p l)
+
 literal_says : (f : Fact) (x : Name) (p : Place) (l : Lit) → noted f x p (lit_tree l) ≡ false
-literal_says f x p (lit.Str n) = let l = StrLit (string_bytes n.value) in by_itself (is_counted f) (naming f p l && false) (declaring f p l) (is_hiding f) (not p.is_inside) ∙ and_false (naming f p l)
-literal_says f x p (lit.Bool n) = let l = BoolLit n.value in by_itself (is_counted f) (naming f p l && false) (declaring f p l) (is_hiding f) (not p.is_inside) ∙ and_false (naming f p l)
-literal_says f x p (lit.Null n) = by_itself (is_counted f) (naming f p NullLit && false) (declaring f p NullLit) (is_hiding f) (not p.is_inside) ∙ and_false (naming f p NullLit)
-literal_says f x p (lit.Num n) = let l = NumLit n.value in by_itself (is_counted f) (naming f p l && false) (declaring f p l) (is_hiding f) (not p.is_inside) ∙ and_false (naming f p l)
+literal_says f x p (lit.Str n) = nothing_said f p (StrLit (string_bytes n.value))
+literal_says f x p (lit.Bool n) = nothing_said f p (BoolLit n.value)
+literal_says f x p (lit.Null n) = nothing_said f p NullLit
+literal_says f x p (lit.Num n) = nothing_said f p (NumLit n.value)
 
 pub name_noted : (u v : Table) (p : Place) (n : Ident) → Notes u v (λ f x. by_naming f x p (Read (ident_name n))) → Notes u v (λ f x. noted f x p (ident_tree n))
 name_noted u v p n = said u v (λ f x. by_naming f x p (Read (ident_name n))) (λ f x. noted f x p (ident_tree n)) (λ f x. sym (read_says f x p n))

@@ -1,5 +1,6 @@
 -- The first captured name and validity, of a node and of nodes in a row.
 use Rattle.std.proofs.Common.{◌≡◌, ◌+◌, ◌*◌, ◌<◌, ◌≤◌, arith, Bool, true, false, ◌&&◌, List, [], ◌∷◌, ◌++◌, Option, Some, None, is_some, refl, sym, ap, ap₂, ◌∙◌}
+use Rattle.std.proofs.Math.Bool.{and-true}
 use Rattle.std.proofs.lemmas.Bool.{false≢true}
 use Rattle.std.specs.Borrow.{Bor}
 use Rattle.swc_ast.specs.Parts.{ident_name}
@@ -25,7 +26,7 @@ abbrev is_sound : Sight → Bool
 is_sound (Caught x) = false
 is_sound (Sound v) = v
 
-abbrev if_some : Option Name → Sight
+abbrev pub if_some : Option Name → Sight
 if_some None = Sound false
 if_some (Some x) = Caught x
 
@@ -105,12 +106,8 @@ first_then i t ts o u v own found = both (passes o u (v && valid t) (captured i.
 pub goes_on : (i j : Inside) (t : Tree) (ts us : Forest) (s : Seen) (v : Bool) (g : Sight) → us ≡ t ⊳ ts → sight s ≡ seen (captured i.first t) (v && valid t) → is_some s.captured ≡ false → j ≡ behind_first i → seen (captured_in i us) (v && valid_all us) ≡ g → seen (captured_in j ts) (s.is_valid && valid_all ts) ≡ g
 goes_on i j t ts us s v g is own found moved h = ap (λ k. seen (captured_in k ts) (s.is_valid && valid_all ts)) moved ∙ (first_then i t ts s.captured s.is_valid v own found ∙ (sym (ap (λ vs. seen (captured_in i vs) (v && valid_all vs)) is) ∙ h))
 
-and_true : (v : Bool) → v ≡ (v && true)
-and_true true = refl
-and_true false = refl
-
 pub ends : (i : Inside) (us : Forest) (v : Bool) (g : Sight) → us ≡ ε → seen (captured_in i us) (v && valid_all us) ≡ g → Sound v ≡ g
-ends i us v g is h = ap Sound (and_true v) ∙ sym (ap (λ vs. seen (captured_in i vs) (v && valid_all vs)) is) ∙ h
+ends i us v g is h = ap Sound (sym (and-true v)) ∙ sym (ap (λ vs. seen (captured_in i vs) (v && valid_all vs)) is) ∙ h
 
 -- a node by itself
 
@@ -119,7 +116,7 @@ no_more [] = refl
 no_more (x ∷ xs) = ap (λ ys. x ∷ ys) (no_more xs)
 
 pub alone : (e : Scopes) (t : Tree) (us : Forest) (v : Bool) → us ≡ t ⊳ ε → seen (captured_in (each e) us) (v && valid_all us) ≡ seen (captured e t) (v && valid t)
-alone e t us v is = ap (λ ts. seen (captured_in (each e) ts) (v && valid_all ts)) is ∙ ap₂ seen (no_more (captured e t)) (ap (λ b. v && b) (sym (and_true (valid t))))
+alone e t us v is = ap (λ ts. seen (captured_in (each e) ts) (v && valid_all ts)) is ∙ ap₂ seen (no_more (captured e t)) (ap (λ b. v && b) (and-true (valid t)))
 
 pub one_is : (n : Node) → children_forest (One n) ≡ node_tree n ⊳ ε
 unfolding children_forest
