@@ -2,7 +2,7 @@
 //! what follows from both contracts, or asks them by the method that it is named after, under its contract.
 #![tactic(auto)]
 
-ghost use Rattle.std.specs.Prelude.{◌≡◌, List, [], IfOk, IfErr, OnOk};
+ghost use Rattle.std.specs.Prelude.{◌≡◌, List, [], IfOk, IfErr, OnOk, IsTrue};
 ghost use Rattle.swc_ast.specs.Modules.{item_tree, module_tree, script_tree};
 ghost use Rattle.swc_ast.specs.Parts.{ident_name, list_trees};
 ghost use Rattle.swc_ast.specs.Tree as trees;
@@ -11,7 +11,7 @@ ghost use Rattle.swc_ast.specs.declared.Span.{Span};
 ghost use Rattle.swc_ast.specs.declared.errors.PassError.TheVariants.{OutOfMemory};
 ghost use Rattle.dce_rules.specs.Uses.{free_to_go, is_unread};
 ghost use Rattle.dce_uses.specs.Items.{IsUnused};
-ghost use Rattle.dce_uses.specs.Said.{AllSaid, Says};
+ghost use Rattle.dce_uses.specs.Said.{AllSaid, NoneFree, Says};
 ghost use Rattle.dce_uses.specs.Tables as tables;
 ghost use Rattle.dce_uses.specs.Tables.{Extends, names_of};
 
@@ -76,4 +76,11 @@ pub fn tell<T: Speaks>(uses: &mut Uses, items: &[T]) -> Result<(), PassError>
     ensures memory { IfErr result (λ e. e ≡ OutOfMemory) }
 {
     uses.tell(items)
+}
+
+/// `Uses::leaves`
+pub fn leaves(uses: &Uses, said: &Said) -> bool
+    ensures { IsTrue result → (t : trees.Tree) → Says (names_of uses.now) said.now t → NoneFree uses.now t }
+{
+    uses.leaves(said)
 }

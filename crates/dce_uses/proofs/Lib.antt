@@ -13,3 +13,4 @@ mod Items
 mod Rows
 pub mod Saying
 mod Unexported
+pub mod Leaving

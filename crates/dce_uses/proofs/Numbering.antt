@@ -138,7 +138,7 @@ pub had_tally : (u v : Table) (n m : ℕ) → v.names ≡ u.names → v.tallies.
 had_tally u v n m names tallies touched low len = record {
   names = names;
   within = omega (arith, low, len, u.tallies.ok.0, ap (λ ts. length ts) tallies);
-  touched = ap (has_number n) touched ∙ has_last n u.touched.items;
+  touched = λ _. ap (has_number n) touched ∙ has_last n u.touched.items;
   numbered = λ k. record {
     within = omega (arith, k.within, ap (λ ts. length ts) tallies, ap (λ ns. length ns) names);
     touched = λ f i is. ap (has_number i) touched ∙ still_has i n u.touched.items (k.touched f i (sym (ap (λ ts. fact_at ts f i) tallies) ∙ is));
@@ -146,12 +146,22 @@ had_tally u v n m names tallies touched low len = record {
   facts = λ f i. ap (λ ts. fact_at ts f i) tallies;
 }
 
+-- one at which something was noted was touched
+pub noted_tally : (u : Table) (n m : ℕ) (f : Fact) → n < m → m ≡ vec_len u.tallies → fact_at u.tallies.items f n ≡ true → Touches u u n
+noted_tally u n m f low len noted = record {
+  names = refl;
+  within = omega (arith, low, len, u.tallies.ok.0);
+  touched = λ k. k.touched f n noted;
+  numbered = λ k. k;
+  facts = λ f i. refl;
+}
+
 -- another gets one, as do all
 pub got_tally : (u v : Table) (n m k : ℕ) (e : Tally) → v.names ≡ u.names → v.tallies.items ≡ take k u.tallies.items ++ replicate (k - vec_len u.tallies) e → v.touched.items ≡ u.touched.items ++ n ∷ [] → ((f : Fact) → holds e f ≡ false) → n < length u.names → k ≡ length u.names → m ≤ n → m ≡ vec_len u.tallies → Touches u v n
 got_tally u v n m k e names tallies touched none low all high len = record {
   names = names;
   within = omega (arith, low, all, long);
-  touched = ap (has_number n) touched ∙ has_last n u.touched.items;
+  touched = λ _. ap (has_number n) touched ∙ has_last n u.touched.items;
   numbered = λ h. record {
     within = omega (arith, all, long, ap (λ ns. length ns) names);
     touched = λ f i is. ap (has_number i) touched ∙ still_has i n u.touched.items (h.touched f i (sym (facts f i) ∙ is));
@@ -186,8 +196,8 @@ pub got_number : (u v : Table) (y : Name) (ns : List Name) (n : ℕ) → ns ≡ 
 got_number u v y ns n names number h = record {
   names = more;
   within = h.within;
-  touched = h.touched;
-  numbered = λ k. h.numbered (record { within = omega (arith, k.within, longer u.names ns between); touched = k.touched });
+  touched = λ k. h.touched (renamed k);
+  numbered = λ k. h.numbered (renamed k);
   number = ap (position (same_name y)) h.names ∙ number;
   facts = λ k f x.
       same_in v.tallies.items u.tallies.items f (h.facts f) (position (same_name x) v.names)
@@ -199,6 +209,9 @@ got_number u v y ns n names number h = record {
 
     more : Extends u.names v.names
     more = subst (Extends u.names) (sym h.names) between
+
+    renamed : IsNumbered u → IsNumbered (with_names u ns)
+    renamed k = record { within = omega (arith, k.within, longer u.names ns between); touched = k.touched }
 
 -- the tally of a name changes
 
@@ -326,7 +339,7 @@ more_told u v n t w g h with_more f x = changed_of u v n t w h f x ∙ by (is_nu
 pub noted_one : (u v w : Table) (y : Name) (n : ℕ) (t r : Tally) (g : Fact → Bool) → Numbers u v y n → Changes v w n t r → ((f : Fact) → holds r f ≡ (holds t f || g f)) → Notes u w (alone g (y ∷ []))
 noted_one u v w y n t r g got h with_more = record {
   names = subst (Extends u.names) (sym h.names) got.names;
-  numbered = λ k. stays_numbered v w n t r h got.touched (got.numbered k);
+  numbered = λ k. stays_numbered v w n t r h (got.touched k) (got.numbered k);
   facts = λ k f x.
       more_told v w n t r g h with_more f x
       ∙ ap₂ (λ a b. a || (g f && b)) (got.facts k f x) (numbered_so x y v.names n got.number);
@@ -347,7 +360,7 @@ back v w y n t r b at h counted f x = changed_of v w n t r h f x ∙ by (is_numb
 pub restored_one : (u v w : Table) (y : Name) (n : ℕ) (t r b : Tally) → Numbers u v y n → Changes v w n t r → ((f : Fact) → holds r f ≡ (if is_counted f then holds b f else holds t f)) → Restores u w (y ∷ []) b
 restored_one u v w y n t r b got h counted = record {
   names = subst (Extends u.names) (sym h.names) got.names;
-  numbered = λ k. stays_numbered v w n t r h got.touched (got.numbered k);
+  numbered = λ k. stays_numbered v w n t r h (got.touched k) (got.numbered k);
   facts = λ k f x. back v w y n t r b got.number h counted f x ∙ ap (λ c. if is_counted f && has_name x (y ∷ []) then holds b f else c) (got.facts k f x);
 }
 

@@ -36,7 +36,7 @@ numbered_behind ns ms (r ∷ rs) e low = (let below = low.0 in let more = longer
 pub row_noted : (u v w : Table) (r : Row) (t s : Tally) → Touches u v r.number → Changes v w r.number t s → ((f : Fact) → holds s f ≡ (holds t f || holds r.tally f)) → Notes u w (row_says u.names r)
 row_noted u v w r t s touch h with_more = record {
   names = extends_as u.names w.names (h.names ∙ touch.names);
-  numbered = λ k. stays_numbered v w r.number t s h touch.touched (touch.numbered k);
+  numbered = λ k. stays_numbered v w r.number t s h (touch.touched k) (touch.numbered k);
   facts = λ k f x.
       more_told v w r.number t s (holds r.tally) h with_more f x
       ∙ ap₂ (λ a ns. a || (holds r.tally f && is_number ns x r.number)) (same_facts u v r.number touch f x) touch.names;
@@ -157,6 +157,19 @@ blank_tally t is f =
     by fact.Declared uses writes abroad declared held hidden = declared
     by fact.Held uses writes abroad declared held hidden = held
     by fact.Hidden uses writes abroad declared held hidden = hidden
+
+-- something was noted in any other
+pub some_fact : (t : Tally) → is_blank t ≡ false → (f : Fact) × (holds t f ≡ true)
+some_fact t is = by t.uses refl t.writes refl t.is_abroad refl t.is_declared refl t.is_held refl t.is_hidden refl
+  where
+    by : (a : Bool) → t.uses ≡ a → (b : Bool) → t.writes ≡ b → (c : Bool) → t.is_abroad ≡ c → (d : Bool) → t.is_declared ≡ d → (e : Bool) → t.is_held ≡ e → (g : Bool) → t.is_hidden ≡ g → (f : Fact) × (holds t f ≡ true)
+    by true p b q c r d s e v g w = (fact.Used, p)
+    by false p true q c r d s e v g w = (fact.Written, q)
+    by false p false q true r d s e v g w = (fact.Abroad, r)
+    by false p false q false r true s e v g w = (fact.Declared, s)
+    by false p false q false r false s true v g w = (fact.Held, v)
+    by false p false q false r false s false v true w = (fact.Hidden, w)
+    by false p false q false r false s false v false w = absurd (false≢true (sym is ∙ cc (p, q, r, s, v, w)))
 
 -- what was noted at a number that has a tally
 pub told_there : (v : Table) (n m : ℕ) (t : Tally) (f : Fact) → n < m → m ≡ vec_len v.tallies → t ≡ slice_index_or v.tallies.items n t → fact_at v.tallies.items f n ≡ holds t f

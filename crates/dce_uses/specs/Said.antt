@@ -1,9 +1,10 @@
 -- What items say of names that go by numbers.
-use Rattle.std.specs.Prelude.{Bool, false, ◌≡◌, ◌<◌, ◌&&◌, ◌||◌, ⊤, ℕ, nat_eq, List, [], ◌∷◌, length, Option, IfSome, option_map, position, unwrap_or}
+use Rattle.std.specs.Prelude.{Bool, true, false, ◌≡◌, ◌<◌, ◌&&◌, ◌||◌, ⊤, ℕ, nat_eq, List, [], ◌∷◌, length, Option, IfSome, option_map, position, unwrap_or}
 use Rattle.stmt_like.specs.Kept.{IsIn}
 use Rattle.swc_ast.specs.declared.modules.ModuleItem.{ModuleItem}
 use Rattle.swc_ast.specs.Modules.{item_tree}
 use Rattle.swc_ast.specs.Tree.{Name, same_name, Tree, label_of, children_of}
+use Rattle.dce_rules.specs.Uses.{declared_in}
 use Rattle.dce_uses.specs.declared.said.Row.{Row}
 use Rattle.dce_uses.specs.declared.said.Said.{Said}
 use Rattle.dce_uses.specs.declared.table.Table.{Table}
@@ -11,7 +12,7 @@ use Rattle.dce_uses.specs.declared.tally.Fact.{Fact}
 use Rattle.dce_uses.specs.declared.uses.Uses.{Uses}
 use Rattle.dce_uses.specs.Exports.{is_nameless_export}
 use Rattle.dce_uses.specs.Items.{item_says}
-use Rattle.dce_uses.specs.Tables.{Notes, fact_of, holds, names_of}
+use Rattle.dce_uses.specs.Tables.{Notes, fact_of, holds, is_free, names_of}
 
 -- whether a name has a number among names
 abbrev pub is_number : List Name → Name → ℕ → Bool
@@ -46,6 +47,10 @@ pub record Takes (u v : Table) (rs : List Row) : Type 0 where
   pub names : v.names ≡ u.names
   pub numbers : AreNumbered u.names rs
   pub facts : (f : Fact) (x : Name) → rows_say u.names rs f x ≡ fact_of u f x
+
+-- None of the names that a tree declares is free.
+abbrev pub NoneFree : Uses → Tree → Type 0
+NoneFree u t = (x : Name) → declared_in x t ≡ true → is_free u x ≡ false
 
 -- What an item says is noted.
 pub record Adds (u v : Uses) (s : Said) : Type 0 where

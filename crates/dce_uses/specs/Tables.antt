@@ -100,7 +100,7 @@ pub record IsBlank (u : Table) : Type 0 where
 pub record Numbers (u v : Table) (y : Name) (n : ℕ) : Type 0 where
   pub names : Extends u.names v.names
   pub within : n < length v.tallies.items
-  pub touched : has_number n v.touched.items ≡ true
+  pub touched : IsNumbered u → has_number n v.touched.items ≡ true
   pub numbered : IsNumbered u → IsNumbered v
   pub number : position (same_name y) v.names ≡ Some n
   pub facts : IsNumbered u → (f : Fact) (x : Name) → fact_of v f x ≡ fact_of u f x
@@ -109,7 +109,7 @@ pub record Numbers (u v : Table) (y : Name) (n : ℕ) : Type 0 where
 pub record Touches (u v : Table) (n : ℕ) : Type 0 where
   pub names : v.names ≡ u.names
   pub within : n < length v.tallies.items
-  pub touched : has_number n v.touched.items ≡ true
+  pub touched : IsNumbered u → has_number n v.touched.items ≡ true
   pub numbered : IsNumbered u → IsNumbered v
   pub facts : (f : Fact) (m : ℕ) → fact_at v.tallies.items f m ≡ fact_at u.tallies.items f m
 

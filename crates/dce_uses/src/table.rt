@@ -5,7 +5,7 @@ ghost use Rattle.swc_ast.specs.Scope.{has_name};
 ghost use Rattle.swc_names.specs.Ids.{optional};
 ghost use Rattle.dce_uses.specs.Noted.{is_hiding};
 ghost use Rattle.dce_uses.specs.Said.{AreNumbered, Takes, row_says, rows_say};
-ghost use Rattle.dce_uses.specs.Tables.{IsBlank, IsNumbered, Notes, Numbers, Restores, Touches, fact_of, holds};
+ghost use Rattle.dce_uses.specs.Tables.{IsBlank, IsNumbered, Notes, Numbers, Restores, Touches, fact_at, fact_of, holds};
 ghost use Rattle.dce_uses.specs.declared.tally.Fact as facts;
 
 use crate::said::Row;
@@ -50,6 +50,17 @@ impl Table {
         }
     }
 
+    /// What was noted at a number, nothing where it has no tally.
+    pub(crate) fn tally_at(&self, number: usize) -> Tally
+        ensures { (f : facts.Fact) → holds result f ≡ fact_at self.now.tallies.items f number }
+    {
+        if number < self.tallies.len() {
+            self.tallies[number]
+        } else {
+            Tally::empty()
+        }
+    }
+
     /// The number of a name, a new one where it has none.
     #[inline(always)]
     fn number(&mut self, name: &Ident) -> Result<usize, AllocError>
@@ -60,16 +71,20 @@ impl Table {
         Ok(number)
     }
 
-    /// Touches a number: from now on it has a tally.
+    /// Touches a number: from now on it has a tally. One of which something was noted is touched already.
     #[inline(always)]
     fn touch(&mut self, number: usize) -> Result<(), AllocError>
         requires { number < length self.old.names }
         ensures { OnOk result (Touches self.old self.new number) }
     {
-        self.touched.push(number)?;
-        if number >= self.tallies.len() {
-            self.tallies.resize(self.names.len(), Tally::empty())?;
+        if number < self.tallies.len() {
+            if self.tallies[number].is_empty() {
+                self.touched.push(number)?;
+            }
+            return Ok(());
         }
+        self.tallies.resize(self.names.len(), Tally::empty())?;
+        self.touched.push(number)?;
         Ok(())
     }
 
@@ -125,7 +140,7 @@ impl Table {
         ensures blank { OnOk result (IsBlank self.new) }
         ensures rows { IfOk result (λ rs. Takes self.old self.new rs.items) }
     {
-        let mut rows = Vec::new(alloc);
+        let mut rows = Vec::with_capacity(alloc, self.touched.len())?;
         while let Some(number) = self.touched.pop() {
             if number < self.tallies.len() {
                 let tally = self.tallies[number];

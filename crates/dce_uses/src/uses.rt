@@ -1,5 +1,5 @@
 //! How the names of a tree are used.
-ghost use Rattle.std.specs.Prelude.{◌≡◌, List, [], IfSome, IfOk, IfErr, OnOk};
+ghost use Rattle.std.specs.Prelude.{◌≡◌, true, false, List, [], IfSome, IfOk, IfErr, OnOk, IsTrue};
 ghost use Rattle.swc_ast.specs.Modules.{item_tree, module_tree, script_tree};
 ghost use Rattle.swc_ast.specs.Parts.{ident_name, list_trees};
 ghost use Rattle.swc_ast.specs.Scope.{default_name};
@@ -11,12 +11,13 @@ ghost use Rattle.tree_visit.specs.Kinds.{kind_label};
 ghost use Rattle.tree_visit.specs.Nodes.{node_tree, children_forest};
 ghost use Rattle.dce_uses.specs.Tables as tables;
 ghost use Rattle.dce_uses.specs.Items.{IsUnused, NotesItem, NotesTree};
-ghost use Rattle.dce_uses.specs.Said.{Adds, AllSaid, AreNumbered, Says};
+ghost use Rattle.dce_uses.specs.Said.{Adds, AllSaid, AreNumbered, NoneFree, Says, row_says};
 ghost use Rattle.dce_uses.specs.Tables.{Extends, names_of};
+ghost use Rattle.dce_uses.specs.declared.tally.Fact.TheVariants as fact;
 
 use crate::exports::is_nameless;
 use crate::place::Place;
-use crate::said::{Said, Speaks};
+use crate::said::{Row, Said, Speaks};
 use crate::table::Table;
 use crate::tally::Fact;
 use std::alloc::{AllocError, Global};
@@ -183,5 +184,39 @@ impl Uses {
         ensures { result ≡ tables.is_abroad self.now (ident_name name.now) }
     {
         self.table.tally(name).has(Fact::Abroad)
+    }
+
+    /// Whether a row tells of no declaration of a name that is free, and of no plain assignment that goes: its name is read, or
+    /// declared nowhere.
+    fn leaves_row(&self, row: &Row) -> bool
+        ensures { IsTrue result → (x : trees.Name) → row_says (names_of self.now) row.now fact.Declared x ≡ true → tables.is_free self.now x ≡ false }
+    {
+        if !row.tally.has(Fact::Declared) && !row.tally.has(Fact::Written) {
+            return true;
+        }
+        let now = self.table.tally_at(row.number);
+        if now.has(Fact::Used) || now.has(Fact::Hidden) {
+            return true;
+        }
+        if row.tally.has(Fact::Declared) {
+            now.has(Fact::Written) && !row.tally.has(Fact::Written)
+        } else {
+            !now.has(Fact::Declared)
+        }
+    }
+
+    /// Whether the tree shaker has nothing to do at an item that it left once, by what the item says: no name that it declares
+    /// is free, and each that it writes is read, or declared nowhere.
+    pub fn leaves(&self, said: &Said) -> bool
+        ensures { IsTrue result → (t : trees.Tree) → Says (names_of self.now) said.now t → NoneFree self.now t }
+    {
+        let mut left: &[Row] = &said.rows;
+        while let [row, rest @ ..] = left {
+            if !self.leaves_row(row) {
+                return false;
+            }
+            left = rest;
+        }
+        true
     }
 }

@@ -1,6 +1,7 @@
 -- Lists of units.
 use Rattle.std.proofs.Common.{◌≡◌, ℕ, Bool, true, false, List, [], ◌∷◌, ◌++◌, refl, sym, ap, subst, ◌∙◌}
-use Rattle.std.specs.Prelude.{Option, Some, None, IfSome}
+use Rattle.std.specs.Prelude.{⊤, Option, Some, None, IfSome}
+use Rattle.std.proofs.lemmas.Bool.{false≢true}
 use Rattle.std.specs.List.{All}
 use Rattle.std.proofs.lemmas.List.{map-append, append_assoc}
 use Rattle.std.proofs.lemmas.List.Elements.{All-nil, All-cons, All-head, All-tail}
@@ -44,8 +45,15 @@ kept_each P of_made {xs} {ys} kept h = all_in P ys (all_kept P of_made kept (eac
 
 -- what is known of units
 
+pub unknown_known : (x : ModuleItem) → Known (unknown x)
+unknown_known x = (tt, (tt, λ is. absurd (false≢true is)))
+
+-- a pass that takes nothing for known
+pub nothing_asked : (us : List Unit) → All (λ _. ⊤) us
+nothing_asked us = all_in (λ _. ⊤) us (λ x at. tt)
+
 pub known_kept : (us vs : List Unit) → Kept (λ s. unknown (items.Stmt s)) us vs → AllKnown us → AllKnown vs
-known_kept us vs kept = kept_each Known (λ s. (tt, tt)) kept
+known_kept us vs kept = kept_each Known (λ s. unknown_known (items.Stmt s)) kept
 
 pub said_kept : (us vs : List Unit) → Kept (λ s. unknown (items.Stmt s)) us vs → (names : List Name) → AllSay names us → AllSay names vs
 said_kept us vs kept names = kept_each (SaidOf names) (λ s. tt) kept

@@ -1,5 +1,5 @@
 -- What is known of an item of a module.
-use Rattle.std.specs.Prelude.{false, List, map, None, IfSome}
+use Rattle.std.specs.Prelude.{◌≡◌, true, false, IsTrue, List, map, None, IfSome}
 use Rattle.std.specs.List.{All}
 use Rattle.swc_ast.specs.Marks.{context_number}
 use Rattle.swc_ast.specs.Modules.{item_tree}
@@ -9,6 +9,8 @@ use Rattle.tree_walk.specs.Pass.{Pass}
 use Rattle.tree_walk.specs.Walks.{Walks}
 use Rattle.swc_expr.specs.Simplifies.{simplify_pass}
 use Rattle.branch_rules.specs.Removes.{remove_pass}
+use Rattle.dce_rules.specs.Shakes.{Shaker, shake_pass}
+use Rattle.dce_rules.specs.Uses.{declared_in}
 use Rattle.dce_uses.specs.Said.{Says}
 use Rattle.round_units.specs.declared.unit.Unit.{Unit}
 
@@ -16,13 +18,21 @@ use Rattle.round_units.specs.declared.unit.Unit.{Unit}
 abbrev pub Rests : Pass → Tree → Type 0
 Rests X t = Walks X false t t
 
+-- none of the names that a tree declares goes
+abbrev pub NoneGoes : Shaker → Tree → Type 0
+NoneGoes S t = (x : Name) → declared_in x t ≡ true → S.free x ≡ false
+
+-- the tree shaker leaves it as it is as long as none of the names that it declares goes
+abbrev pub Settles : Tree → Type 0
+Settles t = (S : Shaker) → NoneGoes S t → Rests (shake_pass S) t
+
 -- an item of which nothing is known
 abbrev pub unknown : ModuleItem → Unit
-unknown x = record { item = x; simplified = None; removed = None; said = None }
+unknown x = record { item = x; simplified = None; removed = None; settled = false; said = None }
 
--- the unresolved names of an expression simplifier and of a remover that leave it, if any
+-- the unresolved names of an expression simplifier and of a remover that leave it, if any, and whether the tree shaker does
 abbrev pub Known : Unit → Type 0
-Known u = IfSome u.simplified (λ c. Rests (simplify_pass (context_number c)) (item_tree u.item)) × IfSome u.removed (λ c. Rests (remove_pass (context_number c)) (item_tree u.item))
+Known u = IfSome u.simplified (λ c. Rests (simplify_pass (context_number c)) (item_tree u.item)) × (IfSome u.removed (λ c. Rests (remove_pass (context_number c)) (item_tree u.item)) × (IsTrue u.settled → Settles (item_tree u.item)))
 
 -- what it says of names, if that is known, by the numbers that names have
 abbrev pub SaidOf : List Name → Unit → Type 0

@@ -1,5 +1,5 @@
 //! An item of a module, and what is known of it.
-ghost use Rattle.std.specs.Prelude.{◌≡◌, IfOk, OnOk, IsTrue, List, None, Some, refl};
+ghost use Rattle.std.specs.Prelude.{◌≡◌, IfOk, OnOk, IsTrue, List, None, Some, refl, ⊤};
 ghost use Rattle.swc_ast.specs.Modules.{item_tree};
 ghost use Rattle.swc_ast.specs.Tree.{Name};
 ghost use Rattle.swc_ast.specs.declared.modules.ModuleItem.TheVariants as items;
@@ -11,8 +11,10 @@ ghost use Rattle.branch_rules.specs.Removes.{remove_pass};
 ghost use Rattle.dce_rules.specs.Shakes.{shake_pass};
 ghost use Rattle.dce_code.specs.Knowledge.{shaker};
 ghost use Rattle.dce_uses.specs.Items.{IsUnused};
+ghost use Rattle.dce_uses.specs.Said.{NoneFree};
 ghost use Rattle.dce_uses.specs.Tables.{Extends, names_of};
 ghost use Rattle.round_units.specs.Rests.{Known, SaidOf, unknown};
+ghost use Rattle.round_units.specs.declared.unit.Unit as unit_of;
 
 use dce_uses::{Said, Speaks, Uses};
 use std::alloc::{AllocError, Global};
@@ -31,6 +33,8 @@ pub struct Unit {
     simplified: Option<SyntaxContext>,
     /// The same of a remover of dead branches.
     removed: Option<SyntaxContext>,
+    /// Whether the tree shaker leaves it as long as none of the names that it declares goes.
+    settled: bool,
     /// What it says of names.
     said: Option<Said>,
 }
@@ -39,16 +43,23 @@ pub struct Unit {
 pub(crate) trait Step {
     ghost pass: { Self → Pass };
 
+    /// What it takes for known of a unit.
+    ghost asks: { Self → unit_of.Unit → Type 0 };
+
     /// Walks the item of a unit, unless the pass is known to leave it. Returns whether it changed.
     fn step(&self, unit: &mut Unit) -> Result<bool, AllocError>
         requires known { Known unit.old }
+        requires asked { asks self.now unit.old }
         ensures made { IfOk result (λ c. Made (pass self.now) (item_tree unit.old.item) (item_tree unit.new.item) c) }
         ensures known { OnOk result (Known unit.new) }
+        ensures asked { OnOk result (asks self.now unit.new) }
         ensures said { OnOk result ((names : List Name) → SaidOf names unit.old → SaidOf names unit.new) };
 }
 
 impl Step for ExprRules {
     ghost pass = { λ r. simplify_pass (unresolved r.ctx) };
+
+    ghost asks = { λ _ _. ⊤ };
 
     fn step(&self, unit: &mut Unit) -> Result<bool, AllocError> {
         unit.simplify(self)
@@ -58,6 +69,8 @@ impl Step for ExprRules {
 impl Step for BranchRules {
     ghost pass = { λ r. remove_pass (unresolved r.ctx) };
 
+    ghost asks = { λ _ _. ⊤ };
+
     fn step(&self, unit: &mut Unit) -> Result<bool, AllocError> {
         unit.remove(self)
     }
@@ -66,8 +79,10 @@ impl Step for BranchRules {
 impl<'a> Step for ShakeRules<'a> {
     ghost pass = { λ r. shake_pass (shaker r.known) };
 
+    ghost asks = { λ r u. SaidOf (names_of r.known.uses.now) u };
+
     fn step(&self, unit: &mut Unit) -> Result<bool, AllocError> {
-        unit.walk(self)
+        unit.shake(self)
     }
 }
 
@@ -90,6 +105,7 @@ impl Unit {
             item,
             simplified: None,
             removed: None,
+            settled: false,
             said: None,
         }
     }
@@ -102,6 +118,7 @@ impl Unit {
             item,
             simplified: _,
             removed: _,
+            settled: _,
             said: _,
         } = self;
         item
@@ -135,6 +152,7 @@ impl Unit {
         if changed {
             self.simplified = None;
             self.removed = None;
+            self.settled = false;
             self.said = None;
         }
         Ok(changed)
@@ -175,6 +193,36 @@ impl Unit {
         }
         Ok(changed)
     }
+
+    /// Whether the tree shaker left it, and nothing is to do at it now, by what it says of names.
+    fn is_left(&self, uses: &Uses) -> bool
+        requires { SaidOf (names_of uses.now) self.now }
+        ensures settled { IsTrue result → IsTrue self.now.settled }
+        ensures free { IsTrue result → NoneFree uses.now (item_tree self.now.item) }
+    {
+        match &self.said {
+            None => false,
+            Some(said) => self.settled && uses.leaves(said),
+        }
+    }
+
+    /// Walks the item by the tree shaker, unless that is known to leave it.
+    fn shake(&mut self, rules: &ShakeRules<'_>) -> Result<bool, AllocError>
+        requires known { Known self.old }
+        requires said { SaidOf (names_of rules.now.known.uses.now) self.old }
+        ensures made { IfOk result (λ c. Made (shake_pass (shaker rules.now.known)) (item_tree self.old.item) (item_tree self.new.item) c) }
+        ensures known { OnOk result (Known self.new) }
+        ensures said { OnOk result ((names : List Name) → SaidOf names self.old → SaidOf names self.new) }
+    {
+        if self.is_left(rules.known.uses) {
+            return Ok(false);
+        }
+        let changed = self.walk(rules)?;
+        if !changed {
+            self.settled = true;
+        }
+        Ok(changed)
+    }
 }
 
 impl StmtLike for Unit {
@@ -191,6 +239,7 @@ impl StmtLike for Unit {
             item,
             simplified,
             removed,
+            settled,
             said,
         } = self;
         match item.try_into_stmt() {
@@ -199,6 +248,7 @@ impl StmtLike for Unit {
                 item,
                 simplified,
                 removed,
+                settled,
                 said,
             }),
         }

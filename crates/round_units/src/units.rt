@@ -1,5 +1,6 @@
 //! The items of a module.
 ghost use Rattle.std.specs.Prelude.{◌≡◌, IfOk, IfErr, OnOk, List};
+ghost use Rattle.std.specs.List.{All};
 ghost use Rattle.swc_ast.specs.Modules.{item_tree, module_tree};
 ghost use Rattle.swc_ast.specs.Tree.{Name};
 ghost use Rattle.swc_ast.specs.declared.errors.PassError.TheVariants.{OutOfMemory};
@@ -85,6 +86,7 @@ fn items_of(alloc: Global, units: Vec<Unit>) -> Result<Vec<ModuleItem>, AllocErr
 /// Walks units by a pass.
 fn walk_units<S: Step>(step: &S, items: &mut Vec<Unit>) -> Result<bool, AllocError>
     requires known { AllKnown items.old.items }
+    requires asked { All (S.asks step.now) items.old.items }
     ensures walked { IfOk result (λ c. Each (λ x y d. walks.Made (S.pass step.now) (item_tree x.item) (item_tree y.item) d) items.old.items items.new.items c) }
     ensures known { OnOk result (AllKnown items.new.items) }
     ensures said { OnOk result ((names : List Name) → AllSay names items.old.items → AllSay names items.new.items) }
@@ -115,6 +117,7 @@ fn say_all(alloc: Global, uses: &mut Uses, items: &mut Vec<Unit>) -> Result<(), 
 /// Runs the tree shaker over units by its rules.
 fn shake_by(rules: ShakeRules<'_>, items: &mut Vec<Unit>) -> Result<bool, AllocError>
     requires known { AllKnown items.old.items }
+    requires said { AllSay (names_of rules.known.uses.now) items.old.items }
     ensures shaken { IfOk result (λ c. (s : TheSpan) → WholeMade (shake_pass (shaker rules.entry.known)) (tree_of s items.old.items) (tree_of s items.new.items) c) }
     ensures known { OnOk result (AllKnown items.new.items) }
     ensures said { OnOk result ((names : List Name) → AllSay names items.old.items → AllSay names items.new.items) }

@@ -52,6 +52,7 @@ impl TreeShaker {
     /// Returns the rules of a run over a module or a script that uses its names so. Fails where memory is refused.
     pub fn rules<'a>(&'a self, alloc: Global, uses: &'a Uses) -> Result<ShakeRules<'a>, AllocError>
         ensures made { IfOk result (λ r. (t : Tree) → Tells uses.now t → MadeFor (⟦<TreeShaker as Pass>⟧.settings self.now) (shaker r.known) t) }
+        ensures uses { IfOk result (λ r. r.known.uses.now ≡ uses.now) }
     {
         let known = Known {
             uses,

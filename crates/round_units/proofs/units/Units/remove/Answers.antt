@@ -6,8 +6,11 @@ use Rattle.round_units.specs.Held.{Held}
 use Rattle.round_units.specs.Trees.{units_tree, tree_of}
 use Rattle.tree_walk.proofs.ModuleArms.{items_then}
 use Rattle.round_units.specs.Rests.{items_in}
-use Rattle.round_units.proofs.Lists.{each_item, items_tidied, known_kept, said_kept}
+use Rattle.round_units.proofs.Lists.{each_item, items_tidied, known_kept, nothing_asked, said_kept}
 use Rattle.round_units.proofs.units.Units.remove.Goals as goal
+
+pub walk_units-requires : goal.walk_units-requires
+walk_units-requires c = record { known = c.self.invariant.0; asked = nothing_asked c.self.inside.items.items }
 
 pub invariant_of-whole : goal.invariant_of-whole
 invariant_of-whole c =

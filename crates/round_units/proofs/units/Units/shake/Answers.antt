@@ -10,7 +10,7 @@ use Rattle.swc_dce.specs.Shaken.{Shaken}
 use Rattle.swc_dce.proofs.ShakeLaw.{shaken, tells}
 use Rattle.round_units.specs.declared.unit.Unit.{Unit}
 use Rattle.round_units.specs.Held.{Held}
-use Rattle.round_units.specs.Rests.{items_in}
+use Rattle.round_units.specs.Rests.{AllSay, items_in}
 use Rattle.round_units.specs.Trees.{units_tree, tree_of}
 use Rattle.static_proofs.proofs.ShapedViews.{items_shaped}
 use Rattle.round_units.proofs.Lists.{all_said, mapped, say_more}
@@ -18,6 +18,12 @@ use Rattle.round_units.proofs.units.Units.shake.Goals as goal
 
 pub tell-requires : goal.tell-requires
 tell-requires c = record { said = all_said (names_of c.say_all.new.uses) c.say_all.new.items.items c.deref.result.now c.deref.ensures.value c.in_ok-say_all.ensures.said }
+
+pub shake_by-requires : goal.shake_by-requires
+shake_by-requires c = record {
+  known = c.in_ok-say_all.ensures.known;
+  said = subst (λ u. AllSay (names_of u) c.say_all.new.items.items) (sym c.in_ok-rules.ensures.uses) (say_more c.say_all.new.items.items _ _ c.in_ok-tell.ensures.more c.in_ok-say_all.ensures.said);
+}
 
 pub invariant_of-whole : goal.invariant_of-whole
 invariant_of-whole c = (c.in_ok-changed.ensures.known, c.in_ok-changed.ensures.said _ (say_more c.say_all.new.items.items _ _ c.in_ok-tell.ensures.more c.in_ok-say_all.ensures.said))

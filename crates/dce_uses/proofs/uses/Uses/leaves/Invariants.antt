@@ -1,0 +1,9 @@
+use Rattle.std.proofs.Common.{length}
+use Rattle.dce_uses.proofs.Leaving.{FreeLeft}
+use Rattle.dce_uses.proofs.uses.Uses.leaves.Given as goal
+
+abbrev pub invariant-loop-left : goal.invariant-loop-left
+invariant-loop-left l = FreeLeft l.self l.said.rows.items l.left
+
+abbrev pub decreases-loop-left : goal.decreases-loop-left
+decreases-loop-left l = length l.left
