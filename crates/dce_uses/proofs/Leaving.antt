@@ -1,5 +1,5 @@
 -- Names that an item declares and that aren't free, by the rows of what it says.
-use Rattle.std.proofs.Common.{◌≡◌, ◌<◌, Bool, true, false, List, [], ◌∷◌, length, refl, ap, ◌∙◌, arith}
+use Rattle.std.proofs.Common.{◌≡◌, ◌<◌, Bool, true, false, List, [], ◌∷◌, length, refl, ◌∙◌, arith}
 use Rattle.std.proofs.lemmas.Bool.{false≢true}
 use Rattle.swc_ast.specs.Tree.{Name, Tree, node, label_of, children_of}
 use Rattle.dce_rules.specs.Uses.{declared_in}
@@ -18,13 +18,12 @@ abbrev pub FreeLeft : Uses → List Row → List Row → Type 0
 FreeLeft u all left = (x : Name) → is_free u x ≡ true → rows_say (names_of u) all fact.Declared x ≡ true → rows_say (names_of u) left fact.Declared x ≡ true
 
 -- where none is left, none is free
-pub none_left : (u : Uses) (s : Said) (all left : List Row) → all ≡ s.rows.items → length left < 1 → FreeLeft u all left → (t : Tree) → Says (names_of u) s t → NoneFree u t
-none_left u s all left same short h t says x declared = by (is_free u x) refl
+pub none_left : (u : Uses) (s : Said) (left : List Row) → length left < 1 → FreeLeft u s.rows.items left → (t : Tree) → Says (names_of u) s t → NoneFree u t
+none_left u s left short h t says x declared = by (is_free u x) refl
   where
-    told : rows_say (names_of u) all fact.Declared x ≡ true
+    told : rows_say (names_of u) s.rows.items fact.Declared x ≡ true
     told =
-        ap (λ rs. rows_say (names_of u) rs fact.Declared x) same ∙ says.facts fact.Declared x
-        ∙ or_false _ ∙ declarations x at_top (node (label_of t) [] (children_of t)) ∙ opened t ∙ declared
+        says.facts fact.Declared x ∙ or_false _ ∙ declarations x at_top (node (label_of t) [] (children_of t)) ∙ opened t ∙ declared
       where
         opened : (t : Tree) → declared_in x (node (label_of t) [] (children_of t)) ≡ declared_in x t
         opened (node l ss cs) = refl

@@ -40,17 +40,14 @@ impl Table {
     pub(crate) fn tally(&self, name: &Ident) -> Tally
         ensures { (f : facts.Fact) → holds result f ≡ fact_of self.now f (ident_name name.now) }
     {
-        let Some(number) = self.names.number_of(name) else {
-            return Tally::empty();
-        };
-        if number < self.tallies.len() {
-            self.tallies[number]
-        } else {
-            Tally::empty()
+        match self.names.number_of(name) {
+            Some(number) => self.tally_at(number),
+            None => Tally::empty(),
         }
     }
 
     /// What was noted at a number, nothing where it has no tally.
+    #[inline(always)]
     pub(crate) fn tally_at(&self, number: usize) -> Tally
         ensures { (f : facts.Fact) → holds result f ≡ fact_at self.now.tallies.items f number }
     {
