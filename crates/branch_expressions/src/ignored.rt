@@ -7,7 +7,7 @@ ghost use Rattle.branch_expressions.specs.Left.{IsLeft, Leaves, Rested};
 
 use crate::lists::{rest_of_array, rest_of_call, rest_of_new, rest_of_sequence, rest_of_template};
 use crate::objects::rest_of_object;
-use crate::operators::{rest_of_assign, rest_of_binary, rest_of_cond, rest_of_unary};
+use crate::operators::{rest_of_binary, rest_of_boxed_assign, rest_of_cond, rest_of_unary};
 use crate::rest::{Rest, moved};
 use std::alloc::{AllocError, Global};
 use swc_ast::Expr;
@@ -74,7 +74,7 @@ pub(crate) fn rest_of(alloc: Global, ctx: &ExprCtx, e: &mut Expr) -> Result<Rest
         Expr::Object(n) => rest_of_object(alloc, ctx, n),
         Expr::Unary(n) => rest_of_unary(alloc, ctx, n),
         Expr::Bin(n) => rest_of_binary(alloc, ctx, n),
-        Expr::Assign(n) => Ok(rest_of_assign(ctx, n)),
+        Expr::Assign(n) => Ok(rest_of_boxed_assign(ctx, n)),
         Expr::Cond(n) => rest_of_cond(alloc, ctx, n),
         Expr::Call(n) => rest_of_call(alloc, ctx, n),
         Expr::New(n) => rest_of_new(alloc, ctx, n),

@@ -311,8 +311,14 @@ fn choice_of(
     }
 }
 
+pub(crate) fn rest_of_boxed_assign(ctx: &ExprCtx, n: &Box<AssignExpr>) -> Rest
+    ensures { Rested (unresolved ctx.now) (assign_tree expr_tree n.now.value) (assign_tree expr_tree n.now.value) result }
+{
+    rest_of_assign(ctx, n)
+}
+
 /// `x = x` of a bound name goes; other assignments stay.
-pub(crate) fn rest_of_assign(ctx: &ExprCtx, n: &AssignExpr) -> Rest
+fn rest_of_assign(ctx: &ExprCtx, n: &AssignExpr) -> Rest
     ensures { Rested (unresolved ctx.now) (assign_tree expr_tree n.now) (assign_tree expr_tree n.now) result }
 {
     if is_itself(ctx, n) {

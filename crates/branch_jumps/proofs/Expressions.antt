@@ -180,9 +180,9 @@ module _ {n : ℕ} (h : Below n) where
   form_closed (Open.Object e) = viewed (ap expr_tree (in_expr.rolls-Object e) ∙ expr_tree-Object e) (λ b. made _ _ (λ g. refl) (each_closed prop_or_spread_tree (suc n) entry_closed e.props.items (omega (arith, b))))
   form_closed (Open.Expr::Fn e) = viewed (ap expr_tree (in_expr.rolls-Fn e) ∙ expr_tree-Fn e) (λ b. record { none_leaves = λ g. refl })
   form_closed (Open.Unary e) = viewed (ap expr_tree (in_expr.rolls-Unary e) ∙ expr_tree-Unary e) (unary_closed e.op e.span (expr_tree e.arg.value) (h.exprs e.arg.value))
-  form_closed (Open.Update e) = viewed (ap expr_tree (in_expr.rolls-Update e) ∙ expr_tree-Update e) (update_closed e.op e.prefix e.span e.arg)
+  form_closed (Open.Update e) = viewed (ap expr_tree (in_expr.rolls-Update e) ∙ expr_tree-Update e) (update_closed e.value.op e.value.prefix e.value.span e.value.arg)
   form_closed (Open.Bin e) = viewed (ap expr_tree (in_expr.rolls-Bin e) ∙ expr_tree-Bin e) (λ b. made _ _ (λ g. refl) (closed_cons (h.exprs e.left.value (omega (arith, b))) (closed_one (h.exprs e.right.value (omega (arith, b))))))
-  form_closed (Open.Assign e) = viewed (ap expr_tree (in_expr.rolls-Assign e) ∙ expr_tree-Assign e) (assign_closed e.op e.span e.left e.right.value)
+  form_closed (Open.Assign e) = viewed (ap expr_tree (in_expr.rolls-Assign e) ∙ expr_tree-Assign e) (assign_closed e.value.op e.value.span e.value.left e.value.right.value)
   form_closed (Open.Member e) = viewed (ap expr_tree (in_expr.rolls-Member e) ∙ expr_tree-Member e) (member_closed e.span e.obj.value e.prop)
   form_closed (Open.Cond e) = viewed (ap expr_tree (in_expr.rolls-Cond e) ∙ expr_tree-Cond e) (λ b. made _ _ (λ g. refl) (closed_cons (h.exprs e.test.value (omega (arith, b))) (closed_cons (h.exprs e.cons.value (omega (arith, b))) (closed_one (h.exprs e.alt.value (omega (arith, b)))))))
   form_closed (Open.Call e) = viewed (ap expr_tree (in_expr.rolls-Call e) ∙ expr_tree-Call e) (call_closed e.span (expr_tree e.callee.value) (list_trees expr_tree e.args.items) (h.exprs e.callee.value) (each_closed expr_tree n h.exprs e.args.items))
@@ -191,7 +191,7 @@ module _ {n : ℕ} (h : Below n) where
   form_closed (Open.Ident e) = viewed (ap expr_tree (in_expr.rolls-Ident e) ∙ expr_tree-Ident e) (λ b. a_leaf _ _ (λ g. refl))
   form_closed (Open.Lit e) = viewed (ap expr_tree (in_expr.rolls-Lit e) ∙ expr_tree-Lit e) (λ b. literal_closed e)
   form_closed (Open.Tpl e) = viewed (ap expr_tree (in_expr.rolls-Tpl e) ∙ expr_tree-Tpl e) (λ b. made _ _ (λ g. refl) (each_closed expr_tree n h.exprs e.exprs.items (omega (arith, b))))
-  form_closed (Open.Arrow e) = viewed (ap expr_tree (in_expr.rolls-Arrow e) ∙ expr_tree-Arrow e ∙ arrow_tree-is e) (λ b. record { none_leaves = λ g. refl })
+  form_closed (Open.Arrow e) = viewed (ap expr_tree (in_expr.rolls-Arrow e) ∙ expr_tree-Arrow e ∙ arrow_tree-is e.value) (λ b. record { none_leaves = λ g. refl })
   form_closed (Open.Invalid e) = viewed (ap expr_tree (in_expr.rolls-Invalid e) ∙ expr_tree-Invalid e) (λ b. a_leaf _ _ (λ g. refl))
 
 -- all sizes

@@ -5,9 +5,10 @@ use Rattle.swc_ast.specs.SameLaws.{impossible}
 use Rattle.swc_ast.specs.Parts.{absent, list_trees}
 use Rattle.swc_ast.specs.Statements.{block_tree, do_while_node}
 use Rattle.swc_ast.specs.Tree.{Block, DoWhile, Empty, For, Tree, node, ε, ◌⊳◌}
-use Rattle.swc_ast.specs.Views.{expr_tree, loop_trees, stmt_tree}
+use Rattle.swc_ast.specs.Views.{expr_tree, for_tree, loop_trees, stmt_tree}
 use Rattle.swc_ast.specs.declared.Span.{Span}
 use Rattle.swc_ast.specs.declared.statements.BlockStmt.{BlockStmt}
+use Rattle.swc_ast.specs.declared.statements.ForStmt.{ForStmt}
 use Rattle.swc_ast.specs.declared.statements.Stmt.{Stmt}
 use Rattle.swc_ast.specs.declared.statements.WhileStmt.{WhileStmt}
 use Rattle.std.specs.declared.alloc.Global.{Global}
@@ -58,8 +59,8 @@ once_inside k n i made ss u s j is at =
 
 -- steps of `do`
 
-pub endless_is : (s : Span) (b : Box Stmt Global) → stmt_tree (in_stmt.For (roll-ForStmt (record { span = s; init = None; test = None; update = None; body = b }))) ≡ node For (s ∷ []) (absent ⊳ absent ⊳ absent ⊳ stmt_tree b.value ⊳ ε)
-endless_is s b = stmt_tree-For (roll-ForStmt (record { span = s; init = None; test = None; update = None; body = b })) ∙ for_tree-is (roll-ForStmt (record { span = s; init = None; test = None; update = None; body = b }))
+pub endless_is : (m : Box ForStmt Global) (s : Span) (b : Box Stmt Global) → m.value ≡ roll-ForStmt (record { span = s; init = None; test = None; update = None; body = b }) → stmt_tree (in_stmt.For m) ≡ node For (s ∷ []) (absent ⊳ absent ⊳ absent ⊳ stmt_tree b.value ⊳ ε)
+endless_is m s b is = stmt_tree-For m ∙ ap for_tree is ∙ for_tree-is (roll-ForStmt (record { span = s; init = None; test = None; update = None; body = b }))
 
 pub do_is : (n : WhileStmt) → do_while_node (loop_trees n) ≡ node DoWhile (n.span ∷ []) (stmt_tree n.body.value ⊳ expr_tree n.test.value ⊳ ε)
 do_is n = ap do_while_node (loop_trees-is n)

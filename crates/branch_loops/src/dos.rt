@@ -21,13 +21,15 @@ fn take_endless(alloc: Global, n: &mut DoWhileStmt) -> Result<Stmt, AllocError>
     ensures { IfOk result (λ s. stmt_tree s ≡ node For (n.old.span ∷ []) (absent ⊳ absent ⊳ absent ⊳ stmt_tree n.old.body.value ⊳ ε)) }
 {
     let body = Box::new(alloc, take_stmt(&mut n.body))?;
-    Ok(Stmt::For(ForStmt {
+    let node = ForStmt {
         span: n.span,
         init: None,
         test: None,
         update: None,
         body,
-    }))
+    };
+    let made = Box::new(alloc, node)?;
+    Ok(Stmt::For(made))
 }
 
 /// What takes the place of a `do` whose test does nothing and is known: a `for` without an end, or its body, where no jump

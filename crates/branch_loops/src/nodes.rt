@@ -52,11 +52,13 @@ pub(crate) fn take_for(alloc: Global, n: &mut ForStmt) -> Result<Stmt, AllocErro
     ensures { IfOk result (λ s. stmt_tree s ≡ for_tree n.old) }
 {
     let body = Box::new(alloc, take_stmt(&mut n.body))?;
-    Ok(Stmt::For(ForStmt {
+    let node = ForStmt {
         span: n.span,
         init: mem::replace(&mut n.init, None),
         test: mem::replace(&mut n.test, None),
         update: mem::replace(&mut n.update, None),
         body,
-    }))
+    };
+    let made = Box::new(alloc, node)?;
+    Ok(Stmt::For(made))
 }

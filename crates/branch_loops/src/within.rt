@@ -105,7 +105,7 @@ fn run_inside(
         Stmt::Block(n) => run_block(alloc, ctx, labels, n),
         Stmt::If(n) => run_arms(alloc, ctx, labels, n),
         Stmt::Labeled(n) => run_labelled(alloc, ctx, labels, n),
-        Stmt::Try(n) => run_try(alloc, ctx, labels, n),
+        Stmt::Try(n) => run_boxed_try(alloc, ctx, labels, n),
         Stmt::Switch(n) => run_switch(alloc, ctx, labels, n),
         _ => run_do(alloc, ctx, labels, s),
     }
@@ -212,6 +212,18 @@ fn run_labelled(
     let near = Labels::new(&n.label.sym, labels);
     let made = run_boxed(alloc, ctx, Some(&near), &mut n.body)?;
     Ok(made)
+}
+
+#[cycle(within)]
+fn run_boxed_try(
+    alloc: Global,
+    ctx: &ExprCtx,
+    labels: Option<&Labels<'_>>,
+    n: &mut Box<TryStmt>,
+) -> Result<bool, AllocError>
+    ensures { IfOk result (λ c. Within (unresolved ctx.now) (texts labels.entry) c (try_tree stmt_tree n.old.value) (try_tree stmt_tree n.new.value)) }
+{
+    run_try(alloc, ctx, labels, n)
 }
 
 #[cycle(within)]
@@ -322,6 +334,12 @@ fn run_do_while(alloc: Global, ctx: &ExprCtx, n: &mut DoWhileStmt) -> Result<boo
     Ok(made)
 }
 
+fn run_boxed_for(alloc: Global, ctx: &ExprCtx, n: &mut Box<ForStmt>) -> Result<bool, AllocError>
+    ensures { IfOk result (λ c. RunsWithin (unresolved ctx.now) (for_tree n.old.value) (for_tree n.new.value) c) }
+{
+    run_for(alloc, ctx, n)
+}
+
 fn run_for(alloc: Global, ctx: &ExprCtx, n: &mut ForStmt) -> Result<bool, AllocError>
     ensures { IfOk result (λ c. RunsWithin (unresolved ctx.now) (for_tree n.old) (for_tree n.new) c) }
 {
@@ -338,7 +356,7 @@ pub fn run_within(alloc: Global, ctx: &ExprCtx, s: &mut Stmt) -> Result<bool, Al
     match s {
         Stmt::While(n) => run_while(alloc, ctx, n),
         Stmt::DoWhile(n) => run_do_while(alloc, ctx, n),
-        Stmt::For(n) => run_for(alloc, ctx, n),
+        Stmt::For(n) => run_boxed_for(alloc, ctx, n),
         _ => Ok(false),
     }
 }

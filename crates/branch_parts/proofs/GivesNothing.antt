@@ -71,10 +71,10 @@ module _ {n : ℕ} (below : (s : Stmt) → nodes (stmt_tree s) ≤ n → gives_n
   form_nothing (Open.If s) = viewed (ap stmt_tree (in_stmt.rolls-If s) ∙ stmt_tree-If s ∙ if_tree-is s) (λ b. and_from (gives_nothing (stmt_tree s.cons.value)) _ (below s.cons.value (omega (arith, b))) (option_nothing s.alt (omega (arith, b))))
   form_nothing (Open.Switch s) = viewed (ap stmt_tree (in_stmt.rolls-Switch s) ∙ stmt_tree-Switch s ∙ switch_tree-is s) (λ b. refl)
   form_nothing (Open.Throw s) = viewed (ap stmt_tree (in_stmt.rolls-Throw s) ∙ stmt_tree-Throw s) (λ b. refl)
-  form_nothing (Open.Try s) = viewed (ap stmt_tree (in_stmt.rolls-Try s) ∙ stmt_tree-Try s) (λ b. try_nothing s)
+  form_nothing (Open.Try s) = viewed (ap stmt_tree (in_stmt.rolls-Try s) ∙ stmt_tree-Try s) (λ b. try_nothing s.value)
   form_nothing (Open.While s) = viewed (ap stmt_tree (in_stmt.rolls-While s) ∙ stmt_tree-While s) (λ b. refl)
   form_nothing (Open.DoWhile s) = viewed (ap stmt_tree (in_stmt.rolls-DoWhile s) ∙ stmt_tree-DoWhile s) (λ b. refl)
-  form_nothing (Open.For s) = viewed (ap stmt_tree (in_stmt.rolls-For s) ∙ stmt_tree-For s ∙ for_tree-is s) (λ b. refl)
+  form_nothing (Open.For s) = viewed (ap stmt_tree (in_stmt.rolls-For s) ∙ stmt_tree-For s ∙ for_tree-is s.value) (λ b. refl)
   form_nothing (Open.Decl d) = viewed (ap stmt_tree (in_stmt.rolls-Decl d) ∙ stmt_tree-Decl d) (λ b. decl_nothing d)
   form_nothing (Open.Stmt::Expr s) = viewed (ap stmt_tree (in_stmt.rolls-Expr s) ∙ stmt_tree-Expr s) (λ b. refl)
 

@@ -65,8 +65,8 @@ while_shallow s n x b is at h = at_body x n.body.value b at h ∙ sym (ap is_sha
 pub do_shallow : (s : Stmt) (n : WhileStmt) (x : Stmt) (b : Bool) → s ≡ in_stmt.DoWhile n → x ≡ n.body.value → b ≡ is_flat (stmt_tree x) → b ≡ is_shallow (stmt_tree s)
 do_shallow s n x b is at h = at_body x n.body.value b at h ∙ sym (ap is_shallow (ap stmt_tree is ∙ stmt_tree-DoWhile n ∙ ap do_while_node (loop_trees-is n)))
 
-pub for_shallow : (s : Stmt) (n : ForStmt) (x : Stmt) (b : Bool) → s ≡ in_stmt.For n → x ≡ n.body.value → b ≡ is_flat (stmt_tree x) → b ≡ is_shallow (stmt_tree s)
-for_shallow s n x b is at h = at_body x n.body.value b at h ∙ sym (ap is_shallow (ap stmt_tree is ∙ stmt_tree-For n ∙ for_tree-is n))
+pub for_shallow : (s : Stmt) (n : Box ForStmt Global) (x : Stmt) (b : Bool) → s ≡ in_stmt.For n → x ≡ n.value.body.value → b ≡ is_flat (stmt_tree x) → b ≡ is_shallow (stmt_tree s)
+for_shallow s n x b is at h = at_body x n.value.body.value b at h ∙ sym (ap is_shallow (ap stmt_tree is ∙ stmt_tree-For n ∙ for_tree-is n.value))
 
 pub decl_shallow : (s : Stmt) (n : Decl) (b : Bool) → s ≡ in_stmt.Decl n → b ≡ is_flat (decl_tree n) → b ≡ true → b ≡ is_shallow (stmt_tree s)
 decl_shallow s n b is h k = k ∙ sym (ap is_shallow (ap stmt_tree is ∙ stmt_tree-Decl n) ∙ flat_shallow (decl_tree n) (sym h ∙ k))

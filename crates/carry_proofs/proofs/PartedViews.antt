@@ -256,9 +256,9 @@ module _ {n : ℕ} (h : Below n) where
   expr_parted (Open.Object e) = viewed (ap expr_tree (in_expr.rolls-Object e) ∙ expr_tree-Object e) (λ b. made _ _ refl (each prop_or_spread_tree (suc n) entry_parted e.props.items (omega (arith, b))))
   expr_parted (Open.Expr::Fn e) = viewed (ap expr_tree (in_expr.rolls-Fn e) ∙ expr_tree-Fn e) (λ b. made _ _ refl (parts_parted e.function.value (omega (arith, b))))
   expr_parted (Open.Unary e) = viewed (ap expr_tree (in_expr.rolls-Unary e) ∙ expr_tree-Unary e) (unary_parted e.op e.span (expr_tree e.arg.value) (h.exprs e.arg.value))
-  expr_parted (Open.Update e) = viewed (ap expr_tree (in_expr.rolls-Update e) ∙ expr_tree-Update e) (update_parted e.op e.prefix e.span e.arg)
+  expr_parted (Open.Update e) = viewed (ap expr_tree (in_expr.rolls-Update e) ∙ expr_tree-Update e) (update_parted e.value.op e.value.prefix e.value.span e.value.arg)
   expr_parted (Open.Bin e) = viewed (ap expr_tree (in_expr.rolls-Bin e) ∙ expr_tree-Bin e) (λ b. made _ _ refl (more (h.exprs e.left.value (omega (arith, b))) (one (h.exprs e.right.value (omega (arith, b))))))
-  expr_parted (Open.Assign e) = viewed (ap expr_tree (in_expr.rolls-Assign e) ∙ expr_tree-Assign e) (assign_parted e.op e.span e.left e.right.value)
+  expr_parted (Open.Assign e) = viewed (ap expr_tree (in_expr.rolls-Assign e) ∙ expr_tree-Assign e) (assign_parted e.value.op e.value.span e.value.left e.value.right.value)
   expr_parted (Open.Member e) = viewed (ap expr_tree (in_expr.rolls-Member e) ∙ expr_tree-Member e) (member_parted e.span e.obj.value e.prop)
   expr_parted (Open.Cond e) = viewed (ap expr_tree (in_expr.rolls-Cond e) ∙ expr_tree-Cond e) (λ b. made _ _ refl (more (h.exprs e.test.value (omega (arith, b))) (more (h.exprs e.cons.value (omega (arith, b))) (one (h.exprs e.alt.value (omega (arith, b)))))))
   expr_parted (Open.Call e) = viewed (ap expr_tree (in_expr.rolls-Call e) ∙ expr_tree-Call e) (call_parted e.span (expr_tree e.callee.value) (list_trees expr_tree e.args.items) (h.exprs e.callee.value) (each expr_tree n h.exprs e.args.items))
@@ -267,7 +267,7 @@ module _ {n : ℕ} (h : Below n) where
   expr_parted (Open.Ident e) = viewed (ap expr_tree (in_expr.rolls-Ident e) ∙ expr_tree-Ident e) (λ b. leaf refl)
   expr_parted (Open.Lit e) = viewed (ap expr_tree (in_expr.rolls-Lit e) ∙ expr_tree-Lit e) (λ b. literal_parted e)
   expr_parted (Open.Tpl e) = viewed (ap expr_tree (in_expr.rolls-Tpl e) ∙ expr_tree-Tpl e) (λ b. made _ _ refl (each expr_tree n h.exprs e.exprs.items (omega (arith, b))))
-  expr_parted (Open.Arrow e) = viewed (ap expr_tree (in_expr.rolls-Arrow e) ∙ expr_tree-Arrow e ∙ arrow_tree-is e) (λ b. made _ _ refl (more (params_parted e.params.items (omega (arith, b))) (one (any_body_parted e.body (omega (arith, b))))))
+  expr_parted (Open.Arrow e) = viewed (ap expr_tree (in_expr.rolls-Arrow e) ∙ expr_tree-Arrow e ∙ arrow_tree-is e.value) (λ b. made _ _ refl (more (params_parted e.value.params.items (omega (arith, b))) (one (any_body_parted e.value.body (omega (arith, b))))))
   expr_parted (Open.Invalid e) = viewed (ap expr_tree (in_expr.rolls-Invalid e) ∙ expr_tree-Invalid e) (λ b. leaf refl)
 
   -- declarations
@@ -327,10 +327,10 @@ module _ {n : ℕ} (h : Below n) where
   stmt_parted (Open.If s) = viewed (ap stmt_tree (in_stmt.rolls-If s) ∙ stmt_tree-If s ∙ if_tree-is s) (λ b. made tree.If _ refl (more (h.exprs s.test.value (omega (arith, b))) (more (h.stmts s.cons.value (omega (arith, b))) (optional stmt_tree n h.stmts s.alt (omega (arith, b))))))
   stmt_parted (Open.Switch s) = viewed (ap stmt_tree (in_stmt.rolls-Switch s) ∙ stmt_tree-Switch s ∙ switch_tree-is s) (λ b. made _ _ (switched (out-SwitchStmt s).discriminant.value (out-SwitchStmt s).cases.items) (more (h.exprs (out-SwitchStmt s).discriminant.value (omega (arith, b))) (cases_parted (out-SwitchStmt s).cases.items (omega (arith, b)))))
   stmt_parted (Open.Throw s) = viewed (ap stmt_tree (in_stmt.rolls-Throw s) ∙ stmt_tree-Throw s) (λ b. made _ _ refl (one (h.exprs s.arg.value (omega (arith, b)))))
-  stmt_parted (Open.Try s) = viewed (ap stmt_tree (in_stmt.rolls-Try s) ∙ stmt_tree-Try s) (λ b. made _ _ refl (more (block_parted s.block (omega (arith, b))) (more (handler_parted s.handler (omega (arith, b))) (one (option_block_parted s.finalizer (omega (arith, b)))))))
+  stmt_parted (Open.Try s) = viewed (ap stmt_tree (in_stmt.rolls-Try s) ∙ stmt_tree-Try s) (λ b. made _ _ refl (more (block_parted s.value.block (omega (arith, b))) (more (handler_parted s.value.handler (omega (arith, b))) (one (option_block_parted s.value.finalizer (omega (arith, b)))))))
   stmt_parted (Open.While s) = viewed (ap stmt_tree (in_stmt.rolls-While s) ∙ stmt_tree-While s) (λ b. let g = loop_parted s (omega (arith, b)) in made tree.While _ refl (more g.0 (one g.1)))
   stmt_parted (Open.DoWhile s) = viewed (ap stmt_tree (in_stmt.rolls-DoWhile s) ∙ stmt_tree-DoWhile s) (λ b. let g = loop_parted s (omega (arith, b)) in made tree.DoWhile _ refl (more g.1 (one g.0)))
-  stmt_parted (Open.For s) = viewed (ap stmt_tree (in_stmt.rolls-For s) ∙ stmt_tree-For s ∙ for_tree-is s) (λ b. made tree.For _ refl (more (head_parted s.init (omega (arith, b))) (more (or_absent expr_tree n h.exprs s.test (omega (arith, b))) (more (or_absent expr_tree n h.exprs s.update (omega (arith, b))) (one (h.stmts s.body.value (omega (arith, b))))))))
+  stmt_parted (Open.For s) = viewed (ap stmt_tree (in_stmt.rolls-For s) ∙ stmt_tree-For s ∙ for_tree-is s.value) (λ b. made tree.For _ refl (more (head_parted s.value.init (omega (arith, b))) (more (or_absent expr_tree n h.exprs s.value.test (omega (arith, b))) (more (or_absent expr_tree n h.exprs s.value.update (omega (arith, b))) (one (h.stmts s.value.body.value (omega (arith, b))))))))
   stmt_parted (Open.Decl d) = viewed (ap stmt_tree (in_stmt.rolls-Decl d) ∙ stmt_tree-Decl d) (any_decl_parted d)
   stmt_parted (Open.Stmt::Expr s) = viewed (ap stmt_tree (in_stmt.rolls-Expr s) ∙ stmt_tree-Expr s) (λ b. made _ _ refl (one (h.exprs s.expr.value (omega (arith, b)))))
 

@@ -65,7 +65,7 @@ stmt_none s = subst (λ q. ((d : Decl) → q ≡ in_stmt.Decl d → ⊥) → is_
     by (Open.Try s) other = viewed (ap stmt_tree (in_stmt.rolls-Try s) ∙ stmt_tree-Try s)
     by (Open.While s) other = viewed (ap stmt_tree (in_stmt.rolls-While s) ∙ stmt_tree-While s)
     by (Open.DoWhile s) other = viewed (ap stmt_tree (in_stmt.rolls-DoWhile s) ∙ stmt_tree-DoWhile s)
-    by (Open.For s) other = viewed (ap stmt_tree (in_stmt.rolls-For s) ∙ stmt_tree-For s ∙ for_tree-is s)
+    by (Open.For s) other = viewed (ap stmt_tree (in_stmt.rolls-For s) ∙ stmt_tree-For s ∙ for_tree-is s.value)
     by (Open.Decl d) other = absurd (other d (in_stmt.rolls-Decl d))
     by (Open.Stmt::Expr s) other = viewed (ap stmt_tree (in_stmt.rolls-Expr s) ∙ stmt_tree-Expr s)
 

@@ -2,6 +2,8 @@
 use Rattle.std.proofs.Common.{◌≡◌, true, List, sym, subst}
 use Rattle.swc_ast.specs.declared.Span.{Span}
 use Rattle.swc_ast.specs.declared.expressions.AssignExpr.{AssignExpr}
+use Rattle.std.specs.declared.alloc.Global.{Global}
+use Rattle.std.specs.declared.boxed.Box.{Box}
 use Rattle.swc_ast.specs.declared.expressions.Expr.{Expr}
 use Rattle.swc_ast.specs.declared.expressions.Expr.TheVariants as in_expr
 use Rattle.swc_ast.specs.declared.AssignOp.TheVariants.{Assign as Plain}
@@ -27,9 +29,9 @@ by_value (unread u) e p = value u e p
 by_shield : {S : Shaker} {r t : Tree} → Unread S r t → is_expression (label_of r) ≡ true → pure S.mark r ≡ true → (rs zs : List Span) → Opens S t (guarded rs zs r)
 by_shield (unread u) e p rs zs = shielded u e p
 
-module _ (S : Shaker) (e r : Expr) (n : AssignExpr Expr) (is : e ≡ in_expr.Assign n) (at : r ≡ n.right.value) (idle : Unread S (expr_tree n.right.value) (assign_tree expr_tree n)) where
+module _ (S : Shaker) (e r : Expr) (n : Box (AssignExpr Expr) Global) (is : e ≡ in_expr.Assign n) (at : r ≡ n.value.right.value) (idle : Unread S (expr_tree n.value.right.value) (assign_tree expr_tree n.value)) where
   opened : Unread S (expr_tree r) (expr_tree e)
-  opened = subst (λ t. Unread S (expr_tree r) t) (sym (at_expr-Assign e n is)) (subst (λ x. Unread S (expr_tree x) (assign_tree expr_tree n)) (sym at) idle)
+  opened = subst (λ t. Unread S (expr_tree r) t) (sym (at_expr-Assign e n is)) (subst (λ x. Unread S (expr_tree x) (assign_tree expr_tree n.value)) (sym at) idle)
 
   -- the value takes the assignment's place
   pub gives_value : pure S.mark (expr_tree r) ≡ true → Opens S (expr_tree e) (expr_tree r)

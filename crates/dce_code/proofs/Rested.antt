@@ -45,7 +45,7 @@ other_rests S s others = by (out-Stmt s) (roll-out-Stmt s)
     by (Open.Try n) r = ap (λ z. own S (stmt_tree z)) (sym r) ∙ ap (own S) (ap stmt_tree (in_stmt.rolls-Try n) ∙ stmt_tree-Try n)
     by (Open.While n) r = ap (λ z. own S (stmt_tree z)) (sym r) ∙ ap (own S) (ap stmt_tree (in_stmt.rolls-While n) ∙ stmt_tree-While n)
     by (Open.DoWhile n) r = ap (λ z. own S (stmt_tree z)) (sym r) ∙ ap (own S) (ap stmt_tree (in_stmt.rolls-DoWhile n) ∙ stmt_tree-DoWhile n)
-    by (Open.For n) r = ap (λ z. own S (stmt_tree z)) (sym r) ∙ ap (own S) (ap stmt_tree (in_stmt.rolls-For n) ∙ stmt_tree-For n ∙ for_tree-is n)
+    by (Open.For n) r = ap (λ z. own S (stmt_tree z)) (sym r) ∙ ap (own S) (ap stmt_tree (in_stmt.rolls-For n) ∙ stmt_tree-For n ∙ for_tree-is n.value)
     by (Open.Decl n) r = absurd (others n (sym r ∙ in_stmt.rolls-Decl n))
     by (Open.Stmt::Expr n) r = ap (λ z. own S (stmt_tree z)) (sym r) ∙ ap (own S) (ap stmt_tree (in_stmt.rolls-Expr n) ∙ stmt_tree-Expr n)
 

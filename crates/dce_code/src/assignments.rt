@@ -50,6 +50,15 @@ impl<'a> Known<'a> {
         Some(take(&mut n.right))
     }
 
+    fn take_boxed(&self, n: &mut Box<AssignExpr>) -> Option<Expr>
+        ensures value { IfSome result (λ r. r ≡ n.old.value.right.value) }
+        ensures idle { IfSome result (λ r. Unread (shaker self.now) (expr_tree n.old.value.right.value) (assign_tree expr_tree n.old.value)) }
+        ensures pure { IfSome result (λ r. pure (shaker self.now).mark (expr_tree r) ≡ true) }
+        ensures stays { IsNone result → n.new ≡ n.old }
+    {
+        self.take_pure(n)
+    }
+
     /// The same of an expression, where it is such an assignment.
     #[tactic(auto, using(swc_ast::proofs::Equations::forms, crate::proofs::Idle::gives_value, crate::proofs::Idle::gives_shielded))]
     fn take_value(&self, e: &mut Expr) -> Option<Expr>
@@ -59,7 +68,7 @@ impl<'a> Known<'a> {
         ensures stays { IsNone result → e.new ≡ e.old }
     {
         match e {
-            Expr::Assign(n) => self.take_pure(n),
+            Expr::Assign(n) => self.take_boxed(n),
             _ => None,
         }
     }

@@ -57,6 +57,13 @@ impl Inside {
         }
     }
 
+    fn leave_boxed_arrow(&self, alloc: Global, n: &mut Box<ArrowExpr>) -> Result<bool, AllocError>
+        ensures remains { IfOk result (λ b. IsTrue b → RemainsIn wrapped_function self.now (arrow_tree n.old.value) (arrow_tree n.new.value)) }
+        ensures same { IfOk result (λ b. IsFalse b → arrow_tree n.new.value ≡ arrow_tree n.old.value) }
+    {
+        self.leave_arrow(alloc, n)
+    }
+
     fn leave_arrow(&self, alloc: Global, n: &mut ArrowExpr) -> Result<bool, AllocError>
         ensures remains { IfOk result (λ b. IsTrue b → RemainsIn wrapped_function self.now (arrow_tree n.old) (arrow_tree n.new)) }
         ensures same { IfOk result (λ b. IsFalse b → arrow_tree n.new ≡ arrow_tree n.old) }
@@ -75,7 +82,7 @@ impl Inside {
                 self.leave_function(alloc, n)?;
                 Ok(true)
             }
-            Expr::Arrow(n) => self.leave_arrow(alloc, n),
+            Expr::Arrow(n) => self.leave_boxed_arrow(alloc, n),
             _ => Ok(false),
         }
     }

@@ -12,6 +12,8 @@ use Rattle.swc_ast.specs.declared.UnaryOp.{UnaryOp}
 use Rattle.swc_ast.specs.declared.UnaryOp.TheVariants as op
 use Rattle.swc_ast.specs.declared.UpdateOp.{UpdateOp}
 use Rattle.swc_ast.specs.declared.AssignOp.{AssignOp}
+use Rattle.std.specs.declared.alloc.Global.{Global}
+use Rattle.std.specs.declared.boxed.Box.{Box}
 use Rattle.swc_ast.specs.declared.expressions.Expr.{Expr}
 use Rattle.swc_ast.specs.declared.expressions.Expr.TheVariants as in_expr
 use Rattle.swc_ast.specs.declared.expressions.ArrayLit.{ArrayLit}
@@ -108,15 +110,15 @@ weighs-Fn e n is = by_tree e _ (at_expr-Fn e n is) (omega arith)
 pub weighs-Unary : (e : Expr) (n : UnaryExpr Expr) → e ≡ in_expr.Unary n → 2 ≤ weight (expr_tree e)
 weighs-Unary e n is = by_tree e _ (at_expr-Unary e n is) (unary n.op n.span (expr_tree n.arg.value))
 
-pub weighs-Update : (e : Expr) (n : UpdateExpr Expr) → e ≡ in_expr.Update n → 2 ≤ weight (expr_tree e)
-weighs-Update e n is = by_tree e _ (at_expr-Update e n is) (update n.op n.prefix n.span n.arg)
+pub weighs-Update : (e : Expr) (n : Box (UpdateExpr Expr) Global) → e ≡ in_expr.Update n → 2 ≤ weight (expr_tree e)
+weighs-Update e n is = by_tree e _ (at_expr-Update e n is) (update n.value.op n.value.prefix n.value.span n.value.arg)
 
 pub weighs-Bin : (e : Expr) (n : BinExpr Expr) → e ≡ in_expr.Bin n → 2 ≤ weight (expr_tree e)
 unfolding own_weight
 weighs-Bin e n is = by_tree e _ (at_expr-Bin e n is) (omega arith)
 
-pub weighs-Assign : (e : Expr) (n : AssignExpr Expr) → e ≡ in_expr.Assign n → 2 ≤ weight (expr_tree e)
-weighs-Assign e n is = by_tree e _ (at_expr-Assign e n is) (assign n.op n.span n.left (expr_tree n.right.value))
+pub weighs-Assign : (e : Expr) (n : Box (AssignExpr Expr) Global) → e ≡ in_expr.Assign n → 2 ≤ weight (expr_tree e)
+weighs-Assign e n is = by_tree e _ (at_expr-Assign e n is) (assign n.value.op n.value.span n.value.left (expr_tree n.value.right.value))
 
 pub weighs-Member : (e : Expr) (n : MemberExpr Expr) → e ≡ in_expr.Member n → 2 ≤ weight (expr_tree e)
 weighs-Member e n is = by_tree e _ (at_expr-Member e n is) (member n.span n.obj.value n.prop)
@@ -140,9 +142,9 @@ pub weighs-Tpl : (e : Expr) (n : Tpl Expr) → e ≡ in_expr.Tpl n → 2 ≤ wei
 unfolding own_weight
 weighs-Tpl e n is = by_tree e _ (at_expr-Tpl e n is) (omega arith)
 
-pub weighs-Arrow : (e : Expr) (n : ArrowExpr) → e ≡ in_expr.Arrow n → 2 ≤ weight (expr_tree e)
+pub weighs-Arrow : (e : Expr) (n : Box ArrowExpr Global) → e ≡ in_expr.Arrow n → 2 ≤ weight (expr_tree e)
 unfolding own_weight
-weighs-Arrow e n is = by_tree e _ (at_expr-Arrow e n is ∙ arrow_tree-is n) (omega arith)
+weighs-Arrow e n is = by_tree e _ (at_expr-Arrow e n is ∙ arrow_tree-is n.value) (omega arith)
 
 lit_weight : (n : Lit) → 1 ≤ weight (lit_tree n)
 unfolding own_weight

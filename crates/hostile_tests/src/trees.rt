@@ -41,14 +41,13 @@ fn template(alloc: Global) -> Result<Expr, AllocError> {
 fn assign(alloc: Global) -> Result<Expr, AllocError> {
     let left = AssignTarget::Ident(ident(alloc, "x", 0)?);
     let right = Box::new(alloc, nothing())?;
-    let op = AssignOp::Assign;
-    let span = span();
-    Ok(Expr::Assign(AssignExpr {
-        span,
-        op,
+    let node = AssignExpr {
+        span: span(),
+        op: AssignOp::Assign,
         left,
         right,
-    }))
+    };
+    Ok(Expr::Assign(Box::new(alloc, node)?))
 }
 
 /// A sequence of no expression.
@@ -59,15 +58,16 @@ fn sequence(alloc: Global) -> Expr {
 }
 
 /// `try {}`
-fn try_alone(alloc: Global) -> Stmt {
+fn try_alone(alloc: Global) -> Result<Stmt, AllocError> {
     let span = span();
     let stmts = Vec::new(alloc);
-    Stmt::Try(TryStmt {
+    let node = TryStmt {
         span,
         block: BlockStmt { span, stmts },
         handler: None,
         finalizer: None,
-    })
+    };
+    Ok(Stmt::Try(Box::new(alloc, node)?))
 }
 
 /// A loop on a declaration of a name, as no text has it.
@@ -97,7 +97,7 @@ fn invalid(alloc: Global) -> Result<Vec<Stmt>, AllocError> {
         statement(alloc, sequence(alloc))?,
         statement(alloc, template(alloc)?)?,
         statement(alloc, assign(alloc)?)?,
-        try_alone(alloc),
+        try_alone(alloc)?,
         loop_on(alloc, VarDeclKind::Let)?,
         loop_on(alloc, VarDeclKind::Const)?,
         switch(alloc)?,

@@ -205,9 +205,9 @@ module _ {n : ℕ} (h : Below n) where
   expr_good (Open.Object e) = viewed (ap expr_tree (in_expr.rolls-Object e) ∙ expr_tree-Object e) (λ b. made _ _ refl refl (each_good prop_or_spread_tree (suc n) entry_good e.props.items (omega (arith, b))))
   expr_good (Open.Expr::Fn e) = viewed (ap expr_tree (in_expr.rolls-Fn e) ∙ expr_tree-Fn e) (λ b. let f = function_parts_good e.function.value (omega (arith, b)) in function_good _ _ refl refl f.0 f.1)
   expr_good (Open.Unary e) = viewed (ap expr_tree (in_expr.rolls-Unary e) ∙ expr_tree-Unary e) (unary_good e.op e.span (expr_tree e.arg.value) (h.exprs e.arg.value))
-  expr_good (Open.Update e) = viewed (ap expr_tree (in_expr.rolls-Update e) ∙ expr_tree-Update e) (update_good e.op e.prefix e.span e.arg)
+  expr_good (Open.Update e) = viewed (ap expr_tree (in_expr.rolls-Update e) ∙ expr_tree-Update e) (update_good e.value.op e.value.prefix e.value.span e.value.arg)
   expr_good (Open.Bin e) = viewed (ap expr_tree (in_expr.rolls-Bin e) ∙ expr_tree-Bin e) (λ b. made _ _ refl refl (good_cons (h.exprs e.left.value (omega (arith, b))) (good_one (h.exprs e.right.value (omega (arith, b))))))
-  expr_good (Open.Assign e) = viewed (ap expr_tree (in_expr.rolls-Assign e) ∙ expr_tree-Assign e) (assign_good e.op e.span e.left e.right.value)
+  expr_good (Open.Assign e) = viewed (ap expr_tree (in_expr.rolls-Assign e) ∙ expr_tree-Assign e) (assign_good e.value.op e.value.span e.value.left e.value.right.value)
   expr_good (Open.Member e) = viewed (ap expr_tree (in_expr.rolls-Member e) ∙ expr_tree-Member e) (member_good e.span e.obj.value e.prop)
   expr_good (Open.Cond e) = viewed (ap expr_tree (in_expr.rolls-Cond e) ∙ expr_tree-Cond e) (λ b. made _ _ refl refl (good_cons (h.exprs e.test.value (omega (arith, b))) (good_cons (h.exprs e.cons.value (omega (arith, b))) (good_one (h.exprs e.alt.value (omega (arith, b)))))))
   expr_good (Open.Call e) = viewed (ap expr_tree (in_expr.rolls-Call e) ∙ expr_tree-Call e) (call_good e.span (expr_tree e.callee.value) (list_trees expr_tree e.args.items) (h.exprs e.callee.value) (each_good expr_tree n h.exprs e.args.items))
@@ -216,7 +216,7 @@ module _ {n : ℕ} (h : Below n) where
   expr_good (Open.Ident e) = viewed (ap expr_tree (in_expr.rolls-Ident e) ∙ expr_tree-Ident e) (λ b. a_leaf _ _ refl refl)
   expr_good (Open.Lit e) = viewed (ap expr_tree (in_expr.rolls-Lit e) ∙ expr_tree-Lit e) (λ b. literal_good e)
   expr_good (Open.Tpl e) = viewed (ap expr_tree (in_expr.rolls-Tpl e) ∙ expr_tree-Tpl e) (λ b. made _ _ refl refl (each_good expr_tree n h.exprs e.exprs.items (omega (arith, b))))
-  expr_good (Open.Arrow e) = viewed (ap expr_tree (in_expr.rolls-Arrow e) ∙ expr_tree-Arrow e ∙ arrow_tree-is e) (λ b. function_good _ _ refl refl (params_good e.params.items (omega (arith, b))) (any_body_good e.body (omega (arith, b))))
+  expr_good (Open.Arrow e) = viewed (ap expr_tree (in_expr.rolls-Arrow e) ∙ expr_tree-Arrow e ∙ arrow_tree-is e.value) (λ b. function_good _ _ refl refl (params_good e.value.params.items (omega (arith, b))) (any_body_good e.value.body (omega (arith, b))))
   expr_good (Open.Invalid e) = viewed (ap expr_tree (in_expr.rolls-Invalid e) ∙ expr_tree-Invalid e) (λ b. a_leaf _ _ refl refl)
 
   -- declarations
@@ -289,10 +289,10 @@ module _ {n : ℕ} (h : Below n) where
   stmt_good (Open.If s) = viewed (ap stmt_tree (in_stmt.rolls-If s) ∙ stmt_tree-If s ∙ if_tree-is s) (λ b. made tree.If _ refl refl (good_cons (widened inner_statement (h.exprs s.test.value (omega (arith, b)))) (good_cons (h.stmts s.cons.value (omega (arith, b))) (option_good stmt_tree n h.stmts s.alt (omega (arith, b))))))
   stmt_good (Open.Switch s) = viewed (ap stmt_tree (in_stmt.rolls-Switch s) ∙ stmt_tree-Switch s ∙ switch_tree-is s) (λ b. made _ _ refl refl (good_cons (widened a_case (h.exprs (out-SwitchStmt s).discriminant.value (omega (arith, b)))) (cases_good (out-SwitchStmt s).cases.items (omega (arith, b)))))
   stmt_good (Open.Throw s) = viewed (ap stmt_tree (in_stmt.rolls-Throw s) ∙ stmt_tree-Throw s) (λ b. made _ _ refl refl (good_one (h.exprs s.arg.value (omega (arith, b)))))
-  stmt_good (Open.Try s) = viewed (ap stmt_tree (in_stmt.rolls-Try s) ∙ stmt_tree-Try s) (λ b. made _ _ refl refl (good_cons (block_good refl s.block (omega (arith, b))) (good_cons (handler_good s.handler (omega (arith, b))) (good_one (option_block_good s.finalizer (omega (arith, b)))))))
+  stmt_good (Open.Try s) = viewed (ap stmt_tree (in_stmt.rolls-Try s) ∙ stmt_tree-Try s) (λ b. made _ _ refl refl (good_cons (block_good refl s.value.block (omega (arith, b))) (good_cons (handler_good s.value.handler (omega (arith, b))) (good_one (option_block_good s.value.finalizer (omega (arith, b)))))))
   stmt_good (Open.While s) = viewed (ap stmt_tree (in_stmt.rolls-While s) ∙ stmt_tree-While s) (λ b. let g = loop_parts_good s (omega (arith, b)) in made tree.While _ refl refl (good_cons (widened inner_statement g.0) (good_one g.1)))
   stmt_good (Open.DoWhile s) = viewed (ap stmt_tree (in_stmt.rolls-DoWhile s) ∙ stmt_tree-DoWhile s) (λ b. let g = loop_parts_good s (omega (arith, b)) in made tree.DoWhile _ refl refl (good_cons g.1 (good_one (widened inner_statement g.0))))
-  stmt_good (Open.For s) = viewed (ap stmt_tree (in_stmt.rolls-For s) ∙ stmt_tree-For s ∙ for_tree-is s) (λ b. loop_good _ (head_good s.init (omega (arith, b))) (absent_good expr_tree n h.exprs s.test (omega (arith, b))) (absent_good expr_tree n h.exprs s.update (omega (arith, b))) (h.stmts s.body.value (omega (arith, b))))
+  stmt_good (Open.For s) = viewed (ap stmt_tree (in_stmt.rolls-For s) ∙ stmt_tree-For s ∙ for_tree-is s.value) (λ b. loop_good _ (head_good s.value.init (omega (arith, b))) (absent_good expr_tree n h.exprs s.value.test (omega (arith, b))) (absent_good expr_tree n h.exprs s.value.update (omega (arith, b))) (h.stmts s.value.body.value (omega (arith, b))))
   stmt_good (Open.Decl d) = viewed (ap stmt_tree (in_stmt.rolls-Decl d) ∙ stmt_tree-Decl d) (λ b. widened declared_statement (any_decl_good d b))
   stmt_good (Open.Stmt::Expr s) = viewed (ap stmt_tree (in_stmt.rolls-Expr s) ∙ stmt_tree-Expr s) (λ b. made _ _ refl refl (good_one (h.exprs s.expr.value (omega (arith, b)))))
 

@@ -144,9 +144,9 @@ expr_at (Open.Array n) = ap (λ t. expr_form (label_of t)) (ap expr_tree (in_exp
 expr_at (Open.Object n) = ap (λ t. expr_form (label_of t)) (ap expr_tree (in_expr.rolls-Object n) ∙ expr_tree-Object n)
 expr_at (Open.Expr::Fn n) = ap (λ t. expr_form (label_of t)) (ap expr_tree (in_expr.rolls-Fn n) ∙ expr_tree-Fn n)
 expr_at (Open.Unary n) = ap (λ t. expr_form (label_of t)) (ap expr_tree (in_expr.rolls-Unary n) ∙ expr_tree-Unary n) ∙ unary_at n.op n.span (expr_tree n.arg.value)
-expr_at (Open.Update n) = ap (λ t. expr_form (label_of t)) (ap expr_tree (in_expr.rolls-Update n) ∙ expr_tree-Update n) ∙ update_at n.op n.prefix n.span n.arg
+expr_at (Open.Update n) = ap (λ t. expr_form (label_of t)) (ap expr_tree (in_expr.rolls-Update n) ∙ expr_tree-Update n) ∙ update_at n.value.op n.value.prefix n.value.span n.value.arg
 expr_at (Open.Bin n) = ap (λ t. expr_form (label_of t)) (ap expr_tree (in_expr.rolls-Bin n) ∙ expr_tree-Bin n)
-expr_at (Open.Assign n) = ap (λ t. expr_form (label_of t)) (ap expr_tree (in_expr.rolls-Assign n) ∙ expr_tree-Assign n) ∙ assign_at n.op n.span n.left (expr_tree n.right.value)
+expr_at (Open.Assign n) = ap (λ t. expr_form (label_of t)) (ap expr_tree (in_expr.rolls-Assign n) ∙ expr_tree-Assign n) ∙ assign_at n.value.op n.value.span n.value.left (expr_tree n.value.right.value)
 expr_at (Open.Member n) = ap (λ t. expr_form (label_of t)) (ap expr_tree (in_expr.rolls-Member n) ∙ expr_tree-Member n) ∙ member_at n.span n.obj.value n.prop
 expr_at (Open.Cond n) = ap (λ t. expr_form (label_of t)) (ap expr_tree (in_expr.rolls-Cond n) ∙ expr_tree-Cond n)
 expr_at (Open.Call n) = ap (λ t. expr_form (label_of t)) (ap expr_tree (in_expr.rolls-Call n) ∙ expr_tree-Call n) ∙ call_at n.span (expr_tree n.callee.value) (list_trees expr_tree n.args.items)
@@ -155,7 +155,7 @@ expr_at (Open.Seq n) = ap (λ t. expr_form (label_of t)) (ap expr_tree (in_expr.
 expr_at (Open.Ident n) = ap (λ t. expr_form (label_of t)) (ap expr_tree (in_expr.rolls-Ident n) ∙ expr_tree-Ident n)
 expr_at (Open.Lit n) = ap (λ t. expr_form (label_of t)) (ap expr_tree (in_expr.rolls-Lit n) ∙ expr_tree-Lit n) ∙ lit_at n
 expr_at (Open.Tpl n) = ap (λ t. expr_form (label_of t)) (ap expr_tree (in_expr.rolls-Tpl n) ∙ expr_tree-Tpl n)
-expr_at (Open.Arrow n) = ap (λ t. expr_form (label_of t)) (ap expr_tree (in_expr.rolls-Arrow n) ∙ expr_tree-Arrow n ∙ arrow_tree-is n)
+expr_at (Open.Arrow n) = ap (λ t. expr_form (label_of t)) (ap expr_tree (in_expr.rolls-Arrow n) ∙ expr_tree-Arrow n ∙ arrow_tree-is n.value)
 expr_at (Open.Invalid n) = ap (λ t. expr_form (label_of t)) (ap expr_tree (in_expr.rolls-Invalid n) ∙ expr_tree-Invalid n)
 
 pub expr_apart : (s : Bool) (o p : ExprForm) (a b : Expr) → roll-Expr o ≡ a → roll-Expr p ≡ b → (expr_number o == expr_number p) ≡ false → false ≡ same s (expr_tree a) (expr_tree b)

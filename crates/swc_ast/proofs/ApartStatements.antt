@@ -89,7 +89,7 @@ stmt_at (Open.Throw n) = ap (λ t. stmt_form (label_of t)) (ap stmt_tree (in_stm
 stmt_at (Open.Try n) = ap (λ t. stmt_form (label_of t)) (ap stmt_tree (in_stmt.rolls-Try n) ∙ stmt_tree-Try n)
 stmt_at (Open.While n) = ap (λ t. stmt_form (label_of t)) (ap stmt_tree (in_stmt.rolls-While n) ∙ stmt_tree-While n)
 stmt_at (Open.DoWhile n) = ap (λ t. stmt_form (label_of t)) (ap stmt_tree (in_stmt.rolls-DoWhile n) ∙ stmt_tree-DoWhile n)
-stmt_at (Open.For n) = ap (λ t. stmt_form (label_of t)) (ap stmt_tree (in_stmt.rolls-For n) ∙ stmt_tree-For n ∙ for_tree-is n)
+stmt_at (Open.For n) = ap (λ t. stmt_form (label_of t)) (ap stmt_tree (in_stmt.rolls-For n) ∙ stmt_tree-For n ∙ for_tree-is n.value)
 stmt_at (Open.Decl n) = ap (λ t. stmt_form (label_of t)) (ap stmt_tree (in_stmt.rolls-Decl n) ∙ stmt_tree-Decl n) ∙ of_decl n
 stmt_at (Open.Stmt::Expr n) = ap (λ t. stmt_form (label_of t)) (ap stmt_tree (in_stmt.rolls-Expr n) ∙ stmt_tree-Expr n)
 

@@ -1,12 +1,13 @@
 //! The rules of expressions.
 ghost use Rattle.std.specs.Prelude.{IfOk};
+ghost use Rattle.swc_ast.specs.Expressions.{assign_tree};
 ghost use Rattle.swc_ast.specs.Views.{expr_tree};
 ghost use Rattle.swc_utils.specs.Globals.{unresolved};
 ghost use Rattle.branch_rules.specs.Expressions.{Becomes};
 
 use branch_expressions::{fold_arms, fold_front, fold_itself};
 use std::alloc::{AllocError, Global};
-use swc_ast::Expr;
+use swc_ast::{AssignExpr, Expr};
 use swc_utils::ExprCtx;
 
 /// Whether a rule may fit an expression of this kind.
@@ -32,6 +33,12 @@ pub(crate) fn is_ruled(e: &Expr) -> bool {
     }
 }
 
+fn fold_boxed_itself(ctx: &ExprCtx, n: &mut Box<AssignExpr>) -> Option<Expr>
+    ensures { Becomes (unresolved ctx.now) (assign_tree expr_tree n.old.value) (assign_tree expr_tree n.new.value) result }
+{
+    fold_itself(ctx, n)
+}
+
 /// What takes an expression's place, whose children are done. None: no rule fits, and it is as it was. Fails where memory
 /// is refused.
 #[tactic(auto)]
@@ -44,7 +51,7 @@ pub(crate) fn fold_expr(
 {
     match e {
         Expr::Seq(n) => fold_front(alloc, ctx, n),
-        Expr::Assign(n) => Ok(fold_itself(ctx, n)),
+        Expr::Assign(n) => Ok(fold_boxed_itself(ctx, n)),
         Expr::Cond(n) => Ok(fold_arms(ctx, n)),
         Expr::This(_)
         | Expr::Array(_)

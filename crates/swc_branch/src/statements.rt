@@ -1,7 +1,8 @@
 //! The rules of statements.
-ghost use Rattle.std.specs.Prelude.{◌≡◌, ◌≤◌, false, IfOk, IsNone, IsTrue, OnOk};
+ghost use Rattle.std.specs.Prelude.{ℕ, ◌≡◌, ◌≤◌, false, IfOk, IsNone, IsTrue, OnOk};
+ghost use Rattle.swc_ast.specs.Statements.{try_tree};
 ghost use Rattle.swc_ast.specs.Tree.{Tree, label_of};
-ghost use Rattle.swc_ast.specs.Views.{stmt_tree};
+ghost use Rattle.swc_ast.specs.Views.{for_tree, stmt_tree};
 ghost use Rattle.swc_ast.specs.Weight.{is_list};
 ghost use Rattle.swc_utils.specs.Globals.{unresolved};
 ghost use Rattle.swc_ast.specs.declared.statements.Stmt.{size-Stmt};
@@ -13,8 +14,26 @@ use branch_loops::{fold_do, fold_for, fold_while};
 use branch_statements::{fold_block, fold_expression, fold_if, fold_label, fold_try};
 use branch_switch::{fold_switch, shed_switch};
 use std::alloc::{AllocError, Global};
-use swc_ast::Stmt;
+use swc_ast::{ForStmt, Stmt, TryStmt};
 use swc_utils::ExprCtx;
+
+fn fold_boxed_try(alloc: Global, n: &mut Box<TryStmt>) -> Result<Option<Stmt>, AllocError>
+    ensures steps { IfOk result (λ o. (mark : ℕ) → Turns mark (try_tree stmt_tree n.old.value) (try_tree stmt_tree n.new.value) o) }
+    ensures finished { IfOk result (λ o. IsNone o → Rests (try_tree stmt_tree n.new.value)) }
+{
+    fold_try(alloc, n)
+}
+
+fn fold_boxed_for(
+    alloc: Global,
+    ctx: &ExprCtx,
+    n: &mut Box<ForStmt>,
+) -> Result<Option<Stmt>, AllocError>
+    ensures steps { IfOk result (λ o. Turns (unresolved ctx.now) (for_tree n.old.value) (for_tree n.new.value) o) }
+    ensures finished { IfOk result (λ o. IsNone o → Rests (for_tree n.new.value)) }
+{
+    fold_for(alloc, ctx, n)
+}
 
 /// What takes a statement's place, whose children are done. None: no rule fits, and it is as it was. Fails where memory
 /// is refused.
@@ -32,9 +51,9 @@ pub(crate) fn fold_stmt(
         Stmt::If(n) => fold_if(alloc, ctx, n),
         Stmt::Block(n) => Ok(fold_block(n)),
         Stmt::Labeled(n) => Ok(fold_label(n)),
-        Stmt::Try(n) => fold_try(alloc, n),
+        Stmt::Try(n) => fold_boxed_try(alloc, n),
         Stmt::While(n) => fold_while(alloc, ctx, n),
-        Stmt::For(n) => fold_for(alloc, ctx, n),
+        Stmt::For(n) => fold_boxed_for(alloc, ctx, n),
         Stmt::DoWhile(n) => fold_do(alloc, ctx, n),
         Stmt::Switch(n) => fold_switch(alloc, ctx, n),
         Stmt::Empty(_)
@@ -81,7 +100,7 @@ fn fold_again(alloc: Global, ctx: &ExprCtx, s: &mut Stmt) -> Result<Option<Stmt>
     ensures { IfOk result (λ o. Turns (unresolved ctx.now) (stmt_tree s.old) (stmt_tree s.new) o) }
 {
     match s {
-        Stmt::For(n) => fold_for(alloc, ctx, n),
+        Stmt::For(n) => fold_boxed_for(alloc, ctx, n),
         _ => Ok(None),
     }
 }

@@ -52,7 +52,7 @@ at_stmt (Open.Throw n) = ap own (ap stmt_tree (in_stmt.rolls-Throw n) ∙ stmt_t
 at_stmt (Open.Try n) = ap own (ap stmt_tree (in_stmt.rolls-Try n) ∙ stmt_tree-Try n)
 at_stmt (Open.While n) = ap own (ap stmt_tree (in_stmt.rolls-While n) ∙ stmt_tree-While n)
 at_stmt (Open.DoWhile n) = ap own (ap stmt_tree (in_stmt.rolls-DoWhile n) ∙ stmt_tree-DoWhile n)
-at_stmt (Open.For n) = ap own (ap stmt_tree (in_stmt.rolls-For n) ∙ stmt_tree-For n ∙ for_tree-is n)
+at_stmt (Open.For n) = ap own (ap stmt_tree (in_stmt.rolls-For n) ∙ stmt_tree-For n ∙ for_tree-is n.value)
 at_stmt (Open.Decl n) = ap own (ap stmt_tree (in_stmt.rolls-Decl n) ∙ stmt_tree-Decl n) ∙ decl_rests n
 at_stmt (Open.Stmt::Expr n) = ap own (ap stmt_tree (in_stmt.rolls-Expr n) ∙ stmt_tree-Expr n)
 

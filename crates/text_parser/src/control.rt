@@ -120,6 +120,7 @@ impl<'a> Parser<'a> {
             handler,
             finalizer,
         };
+        let node = Box::new(self.alloc, node)?;
         nest_stmt(Stmt::Try(node), levels)
     }
 

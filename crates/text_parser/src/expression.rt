@@ -139,6 +139,7 @@ impl<'a> Parser<'a> {
             left,
             right: right.node,
         };
+        let node = Box::new(self.alloc, node)?;
         self.nest(Expr::Assign(node), levels.max(right.levels))
     }
 
@@ -292,6 +293,7 @@ impl<'a> Parser<'a> {
             prefix,
             arg: target(arg, arg_start)?,
         };
+        let node = Box::new(self.alloc, node)?;
         self.nest(Expr::Update(node), levels)
     }
 }

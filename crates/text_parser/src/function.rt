@@ -198,6 +198,7 @@ impl<'a> Parser<'a> {
             params: params.node,
             body: body.node,
         };
+        let node = Box::new(self.alloc, node)?;
         self.nest(Expr::Arrow(node), levels)
     }
 

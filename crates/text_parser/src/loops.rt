@@ -79,6 +79,7 @@ impl<'a> Parser<'a> {
             update: update.node,
             body: body.node,
         };
+        let node = Box::new(self.alloc, node)?;
         nest_stmt(Stmt::For(node), levels)
     }
 

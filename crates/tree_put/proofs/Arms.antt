@@ -9,7 +9,7 @@ use Rattle.swc_ast.specs.Labels.{is_expression}
 use Rattle.swc_ast.specs.Tree as tree
 use Rattle.swc_ast.specs.Tree.{Tree, node, Forest, label_of}
 use Rattle.swc_ast.specs.Parts.{lit_tree, option_ident_name, option_ident_spans}
-use Rattle.swc_ast.specs.Expressions.{spread_kind, item_kind, item_spans, item_trees, array_tree, member_tree, member_node, member_update, member_assign, call_node, unary_node, unary_tree}
+use Rattle.swc_ast.specs.Expressions.{spread_kind, item_kind, item_spans, item_trees, array_tree, member_tree, member_node, member_update, member_assign, call_node, unary_node, unary_tree, update_tree, assign_tree}
 use Rattle.swc_ast.specs.Views.{expr_tree, prop_or_spread_tree, function_trees, arrow_tree}
 use Rattle.swc_ast.specs.declared.AssignOp.{AssignOp}
 use Rattle.swc_ast.specs.declared.Span.{Span}
@@ -169,19 +169,23 @@ pub member_arm : {S : Type 0} {X : Puts S} {e f : Expr} {n m : MemberExpr Expr} 
 member_arm {S} {X} {e} {f} {n} {m} {s} {t} a is same after h =
     parts_at (ap expr_tree is ∙ expr_tree-Member n ∙ ap (member_tree expr_tree) (sym same)) (ap expr_tree after ∙ expr_tree-Member _) h
 
-pub arrow_arm : {S : Type 0} {X : Puts S} {e f : Expr} {n m : ArrowExpr} {s t : S} (a : ArrowExpr) → e ≡ in_expr.Arrow n → m ≡ n → f ≡ in_expr.Arrow a → MakesParts X (arrow_tree m) s (arrow_tree a) t → MakesParts X (expr_tree e) s (expr_tree f) t
+pub arrow_arm : {S : Type 0} {X : Puts S} {e f : Expr} {n m : Box ArrowExpr Global} {s t : S} (a : Box ArrowExpr Global) → e ≡ in_expr.Arrow n → m ≡ n → f ≡ in_expr.Arrow a → MakesParts X (arrow_tree m.value) s (arrow_tree a.value) t → MakesParts X (expr_tree e) s (expr_tree f) t
 arrow_arm {S} {X} {e} {f} {n} {m} {s} {t} a is same after h =
-    parts_at (ap expr_tree is ∙ expr_tree-Arrow n ∙ ap arrow_tree (sym same)) (ap expr_tree after ∙ expr_tree-Arrow _) h
+    parts_at (ap expr_tree is ∙ expr_tree-Arrow n ∙ ap (λ b. arrow_tree b.value) (sym same)) (ap expr_tree after ∙ expr_tree-Arrow _) h
 
-pub update_arm : {S : Type 0} {X : Puts S} {e f : Expr} {n m : UpdateExpr Expr} {s t : S} (a : AssignTarget Expr) → e ≡ in_expr.Update n → m ≡ n → f ≡ in_expr.Update (record n { arg = a }) → TargetGoes X s m.arg a t → MakesParts X (expr_tree e) s (expr_tree f) t
+pub update_arm : {S : Type 0} {X : Puts S} {e f : Expr} {n m : Box (UpdateExpr Expr) Global} {s t : S} (a : Box (UpdateExpr Expr) Global) → e ≡ in_expr.Update n → m ≡ n → f ≡ in_expr.Update a → MakesParts X (update_tree expr_tree m.value) s (update_tree expr_tree a.value) t → MakesParts X (expr_tree e) s (expr_tree f) t
 update_arm {S} {X} {e} {f} {n} {m} {s} {t} a is same after h =
-    let w : TargetGoes X s n.arg a t = subst (λ z. TargetGoes X s z.arg a t) same h in
-    parts_at (ap expr_tree is ∙ expr_tree-Update n) (ap expr_tree after ∙ expr_tree-Update _) (w.updated n.op n.prefix n.span)
+    parts_at (ap expr_tree is ∙ expr_tree-Update n ∙ ap (λ b. update_tree expr_tree b.value) (sym same)) (ap expr_tree after ∙ expr_tree-Update _) h
 
-pub assign_arm : {S : Type 0} {X : Puts S} {e f : Expr} {n m : AssignExpr Expr} {s t u : S} (a : AssignTarget Expr) (b : Box Expr Global) → e ≡ in_expr.Assign n → m ≡ n → f ≡ in_expr.Assign (record n { left = a; right = b }) → TargetGoes X s m.left a t → Makes X (expr_tree m.right.value) t spot.Here (expr_tree b.value) u → MakesParts X (expr_tree e) s (expr_tree f) u
-assign_arm {S} {X} {e} {f} {n} {m} {s} {t} {u} a b is same after h k =
-    let w : TargetGoes X s n.left a t = subst (λ z. TargetGoes X s z.left a t) same h in
-    parts_at (ap expr_tree is ∙ expr_tree-Assign n) (ap expr_tree after ∙ expr_tree-Assign _) (w.assigned n.op n.span _ _ u (subst (λ z. Makes X (expr_tree z.right.value) t spot.Here (expr_tree b.value) u) same k))
+pub update_made : {S : Type 0} {X : Puts S} {s t : S} (n : UpdateExpr Expr) (a : AssignTarget Expr) → TargetGoes X s n.arg a t → MakesParts X (update_tree expr_tree n) s (update_tree expr_tree (record n { arg = a })) t
+update_made n a w = w.updated n.op n.prefix n.span
+
+pub assign_arm : {S : Type 0} {X : Puts S} {e f : Expr} {n m : Box (AssignExpr Expr) Global} {s t : S} (a : Box (AssignExpr Expr) Global) → e ≡ in_expr.Assign n → m ≡ n → f ≡ in_expr.Assign a → MakesParts X (assign_tree expr_tree m.value) s (assign_tree expr_tree a.value) t → MakesParts X (expr_tree e) s (expr_tree f) t
+assign_arm {S} {X} {e} {f} {n} {m} {s} {t} a is same after h =
+    parts_at (ap expr_tree is ∙ expr_tree-Assign n ∙ ap (λ b. assign_tree expr_tree b.value) (sym same)) (ap expr_tree after ∙ expr_tree-Assign _) h
+
+pub assign_made : {S : Type 0} {X : Puts S} {s t u : S} (n : AssignExpr Expr) (a : AssignTarget Expr) (b : Box Expr Global) → TargetGoes X s n.left a t → Makes X (expr_tree n.right.value) t spot.Here (expr_tree b.value) u → MakesParts X (assign_tree expr_tree n) s (assign_tree expr_tree (record n { left = a; right = b })) u
+assign_made {S} {X} {s} {t} {u} n a b w k = w.assigned n.op n.span _ _ u k
 
 -- a callee, whose label_of may be part of the call's
 call_by : {S : Type 0} {X : Puts S} (m : Span) (t v : Tree) (ts us : Forest) {s r u : S} → Callee t → Makes X t s spot.Callee v r → MakesAll X ts r us u → MakesParts X (call_node m t ts) s (call_node m v us) u

@@ -117,17 +117,17 @@ pub switch_arm : {S : Type 0} {X : Puts S} {e f : Stmt} {n m : SwitchStmt} {s t 
 switch_arm a is same after w =
     put_at (ap stmt_tree is ∙ stmt_tree-Switch _ ∙ ap switch_tree (sym same)) (ap stmt_tree after ∙ stmt_tree-Switch _) w
 
-pub for_arm : {S : Type 0} {X : Puts S} {e f : Stmt} {n m : ForStmt} {s t : S} (a : ForStmt) → e ≡ in_stmt.For n → m ≡ n → f ≡ in_stmt.For a → Makes X (for_tree m) s spot.Here (for_tree a) t → Makes X (stmt_tree e) s spot.Here (stmt_tree f) t
+pub for_arm : {S : Type 0} {X : Puts S} {e f : Stmt} {n m : Box ForStmt Global} {s t : S} (a : Box ForStmt Global) → e ≡ in_stmt.For n → m ≡ n → f ≡ in_stmt.For a → Makes X (for_tree m.value) s spot.Here (for_tree a.value) t → Makes X (stmt_tree e) s spot.Here (stmt_tree f) t
 for_arm a is same after w =
-    put_at (ap stmt_tree is ∙ stmt_tree-For _ ∙ ap for_tree (sym same)) (ap stmt_tree after ∙ stmt_tree-For _) w
+    put_at (ap stmt_tree is ∙ stmt_tree-For _ ∙ ap (λ b. for_tree b.value) (sym same)) (ap stmt_tree after ∙ stmt_tree-For _) w
 
 pub decl_arm : {S : Type 0} {X : Puts S} {e f : Stmt} {n m : Decl} {s t : S} (a : Decl) → e ≡ in_stmt.Decl n → m ≡ n → f ≡ in_stmt.Decl a → Makes X (decl_tree m) s spot.Here (decl_tree a) t → Makes X (stmt_tree e) s spot.Here (stmt_tree f) t
 decl_arm a is same after w =
     put_at (ap stmt_tree is ∙ stmt_tree-Decl _ ∙ ap decl_tree (sym same)) (ap stmt_tree after ∙ stmt_tree-Decl _) w
 
-pub try_arm : {S : Type 0} {X : Puts S} {e f : Stmt} {n m : TryStmt Stmt} {s t : S} (a : TryStmt Stmt) → e ≡ in_stmt.Try n → m ≡ n → f ≡ in_stmt.Try a → Makes X (try_tree stmt_tree m) s spot.Here (try_tree stmt_tree a) t → Makes X (stmt_tree e) s spot.Here (stmt_tree f) t
+pub try_arm : {S : Type 0} {X : Puts S} {e f : Stmt} {n m : Box (TryStmt Stmt) Global} {s t : S} (a : Box (TryStmt Stmt) Global) → e ≡ in_stmt.Try n → m ≡ n → f ≡ in_stmt.Try a → Makes X (try_tree stmt_tree m.value) s spot.Here (try_tree stmt_tree a.value) t → Makes X (stmt_tree e) s spot.Here (stmt_tree f) t
 try_arm a is same after w =
-    put_at (ap stmt_tree is ∙ stmt_tree-Try _ ∙ ap (try_tree stmt_tree) (sym same)) (ap stmt_tree after ∙ stmt_tree-Try _) w
+    put_at (ap stmt_tree is ∙ stmt_tree-Try _ ∙ ap (λ b. try_tree stmt_tree b.value) (sym same)) (ap stmt_tree after ∙ stmt_tree-Try _) w
 
 -- loops
 pub while_arm : {S : Type 0} {X : Puts S} {e f : Stmt} {n m : WhileStmt} {s t : S} (a : WhileStmt) → e ≡ in_stmt.While n → m ≡ n → f ≡ in_stmt.While a → LoopGoes X s (loop_trees m) (loop_trees a) t → Makes X (stmt_tree e) s spot.Here (stmt_tree f) t

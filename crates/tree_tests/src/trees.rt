@@ -35,15 +35,16 @@ fn template(alloc: Global) -> Result<Expr, AllocError> {
 }
 
 /// `try {}`
-fn try_alone(alloc: Global) -> Stmt {
+fn try_alone(alloc: Global) -> Result<Stmt, AllocError> {
     let span = span();
     let stmts = Vec::new(alloc);
-    Stmt::Try(TryStmt {
+    let node = TryStmt {
         span,
         block: BlockStmt { span, stmts },
         handler: None,
         finalizer: None,
-    })
+    };
+    Ok(Stmt::Try(Box::new(alloc, node)?))
 }
 
 /// `while (1) let x;`
@@ -61,7 +62,7 @@ fn invalid_trees_are_told(rt: HostRuntime) -> Result<(), Fail> {
     let span = span();
     let exprs = vec![in alloc; number(1)]?;
     let mut stmts = vec![in alloc;
-        try_alone(alloc),
+        try_alone(alloc)?,
         loop_on_let(alloc)?,
         statement(alloc, Expr::Seq(SeqExpr { span, exprs }))?,
         statement(alloc, Expr::Invalid(Invalid { span }))?,

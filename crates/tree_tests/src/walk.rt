@@ -66,12 +66,13 @@ impl Rules for Unassign {
 
 /// `x = 1`
 fn assignment(alloc: Global) -> Result<Expr, AllocError> {
-    Ok(Expr::Assign(AssignExpr {
+    let node = AssignExpr {
         span: span(),
         op: AssignOp::Assign,
         left: AssignTarget::Ident(ident(alloc, "x", 1)?),
         right: Box::new(alloc, number(1))?,
-    }))
+    };
+    Ok(Expr::Assign(Box::new(alloc, node)?))
 }
 
 /// `x = 1;`

@@ -6,7 +6,7 @@ use Rattle.std.specs.declared.boxed.Box.{Box}
 use Rattle.std.specs.declared.vec.Vec.{Vec}
 use Rattle.swc_ast.specs.Tree as tree
 use Rattle.swc_ast.specs.Tree.{node}
-use Rattle.swc_ast.specs.Expressions.{spread_kind, item_kind, item_spans, item_trees, array_tree, member_tree, member_node}
+use Rattle.swc_ast.specs.Expressions.{spread_kind, item_kind, item_spans, item_trees, array_tree, member_tree, member_node, update_tree, assign_tree}
 use Rattle.swc_ast.specs.Views.{expr_tree}
 use Rattle.swc_ast.specs.declared.Span.{Span}
 use Rattle.swc_ast.specs.declared.expressions.Expr.{Expr}
@@ -44,15 +44,19 @@ pub unary_arm : {X : Pass} {e f : Expr} {n m : UnaryExpr Expr} {c : Bool} (a : B
 unary_arm {X} {e} {f} {n} {m} {c} a is same after h =
     inside_at (ap expr_tree is ∙ expr_tree-Unary n) (ap expr_tree after ∙ expr_tree-Unary _) (subst (λ k. OperandWalks X k.op (expr_tree k.arg.value) (expr_tree a.value) c) same h n.span)
 
-pub update_arm : {X : Pass} {e f : Expr} {n m : UpdateExpr Expr} {c : Bool} (a : AssignTarget Expr) → e ≡ in_expr.Update n → m ≡ n → f ≡ in_expr.Update (record n { arg = a }) → TargetWalks X m.arg a c → Inside X c (expr_tree e) (expr_tree f)
+pub update_arm : {X : Pass} {e f : Expr} {n m : Box (UpdateExpr Expr) Global} {c : Bool} (a : Box (UpdateExpr Expr) Global) → e ≡ in_expr.Update n → m ≡ n → f ≡ in_expr.Update a → Inside X c (update_tree expr_tree m.value) (update_tree expr_tree a.value) → Inside X c (expr_tree e) (expr_tree f)
 update_arm {X} {e} {f} {n} {m} {c} a is same after h =
-    let w : TargetWalks X n.arg a c = subst (λ k. TargetWalks X k.arg a c) same h in
-    inside_at (ap expr_tree is ∙ expr_tree-Update n) (ap expr_tree after ∙ expr_tree-Update _) (w.updated n.op n.prefix n.span)
+    inside_at (ap expr_tree is ∙ expr_tree-Update n ∙ ap (λ b. update_tree expr_tree b.value) (sym same)) (ap expr_tree after ∙ expr_tree-Update _) h
 
-pub assign_arm : {X : Pass} {e f : Expr} {n m : AssignExpr Expr} {c d : Bool} (a : AssignTarget Expr) (b : Box Expr Global) → e ≡ in_expr.Assign n → m ≡ n → f ≡ in_expr.Assign (record n { left = a; right = b }) → TargetWalks X m.left a c → Walks X d (expr_tree m.right.value) (expr_tree b.value) → Inside X (c || d) (expr_tree e) (expr_tree f)
-assign_arm {X} {e} {f} {n} {m} {c} {d} a b is same after h k =
-    let w : TargetWalks X n.left a c = subst (λ k. TargetWalks X k.left a c) same h in
-    inside_at (ap expr_tree is ∙ expr_tree-Assign n) (ap expr_tree after ∙ expr_tree-Assign _) (w.assigned n.op n.span _ _ d (subst (λ k. Walks X d (expr_tree k.right.value) (expr_tree b.value)) same k))
+pub update_made : {X : Pass} {c : Bool} (n : UpdateExpr Expr) (a : AssignTarget Expr) → TargetWalks X n.arg a c → Inside X c (update_tree expr_tree n) (update_tree expr_tree (record n { arg = a }))
+update_made n a w = w.updated n.op n.prefix n.span
+
+pub assign_arm : {X : Pass} {e f : Expr} {n m : Box (AssignExpr Expr) Global} {c : Bool} (a : Box (AssignExpr Expr) Global) → e ≡ in_expr.Assign n → m ≡ n → f ≡ in_expr.Assign a → Inside X c (assign_tree expr_tree m.value) (assign_tree expr_tree a.value) → Inside X c (expr_tree e) (expr_tree f)
+assign_arm {X} {e} {f} {n} {m} {c} a is same after h =
+    inside_at (ap expr_tree is ∙ expr_tree-Assign n ∙ ap (λ b. assign_tree expr_tree b.value) (sym same)) (ap expr_tree after ∙ expr_tree-Assign _) h
+
+pub assign_made : {X : Pass} {c d : Bool} (n : AssignExpr Expr) (a : AssignTarget Expr) (b : Box Expr Global) → TargetWalks X n.left a c → Walks X d (expr_tree n.right.value) (expr_tree b.value) → Inside X (c || d) (assign_tree expr_tree n) (assign_tree expr_tree (record n { left = a; right = b }))
+assign_made {X} {c} {d} n a b w k = w.assigned n.op n.span _ _ d k
 
 pub member_arm : {X : Pass} {e f : Expr} {n m : MemberExpr Expr} {c : Bool} (a : MemberExpr Expr) → e ≡ in_expr.Member n → m ≡ n → f ≡ in_expr.Member a → Inside X c (member_tree expr_tree m) (member_tree expr_tree a) → Inside X c (expr_tree e) (expr_tree f)
 member_arm {X} {e} {f} {n} {m} {c} a is same after h =

@@ -50,9 +50,9 @@ pub fn_arm : {X : Pass} {e f : Expr} {n m : FnExpr Function} {c : Bool} (b : Box
 fn_arm {X} {e} {f} {n} {m} {c} b is same after w =
     inside_at (ap expr_tree is ∙ expr_tree-Fn n) (ap expr_tree after ∙ expr_tree-Fn _) (function_inside _ _ _ _ c refl (subst (λ k. FunctionWalks X (function_trees k.function.value) (function_trees b.value) c) same w))
 
-pub arrow_arm : {X : Pass} {e f : Expr} {n m : ArrowExpr} {c : Bool} (a : ArrowExpr) → e ≡ in_expr.Arrow n → m ≡ n → f ≡ in_expr.Arrow a → Inside X c (arrow_tree m) (arrow_tree a) → Inside X c (expr_tree e) (expr_tree f)
+pub arrow_arm : {X : Pass} {e f : Expr} {n m : Box ArrowExpr Global} {c : Bool} (a : Box ArrowExpr Global) → e ≡ in_expr.Arrow n → m ≡ n → f ≡ in_expr.Arrow a → Inside X c (arrow_tree m.value) (arrow_tree a.value) → Inside X c (expr_tree e) (expr_tree f)
 arrow_arm {X} {e} {f} {n} {m} {c} a is same after w =
-    inside_at (ap expr_tree is ∙ expr_tree-Arrow n ∙ ap arrow_tree (sym same)) (ap expr_tree after ∙ expr_tree-Arrow _) w
+    inside_at (ap expr_tree is ∙ expr_tree-Arrow n ∙ ap (λ b. arrow_tree b.value) (sym same)) (ap expr_tree after ∙ expr_tree-Arrow _) w
 
 pub spread_arm : {X : Pass} {e f : PropOrSpread} {n m : SpreadElement Expr} {c : Bool} (a : Box Expr Global) → e ≡ in_prop_or_spread.Spread n → m ≡ n → f ≡ in_prop_or_spread.Spread (record n { expr = a }) → Walks X c (expr_tree m.expr.value) (expr_tree a.value) → Walks X c (prop_or_spread_tree e) (prop_or_spread_tree f)
 spread_arm {X} {e} {f} {n} {m} {c} a is same after w =

@@ -106,9 +106,9 @@ pub switch_arm : {X : Pass} {e f : Stmt} {n m : SwitchStmt} {c : Bool} (a : Swit
 switch_arm {X} {e} {f} {n} {m} {c} a is same after w =
     entered_at (ap stmt_tree is ∙ stmt_tree-Switch n ∙ ap switch_tree (sym same)) (ap stmt_tree after ∙ stmt_tree-Switch _) w
 
-pub for_arm : {X : Pass} {e f : Stmt} {n m : ForStmt} {c : Bool} (a : ForStmt) → e ≡ in_stmt.For n → m ≡ n → f ≡ in_stmt.For a → Entered X c (for_tree m) (for_tree a) → Entered X c (stmt_tree e) (stmt_tree f)
+pub for_arm : {X : Pass} {e f : Stmt} {n m : Box ForStmt Global} {c : Bool} (a : Box ForStmt Global) → e ≡ in_stmt.For n → m ≡ n → f ≡ in_stmt.For a → Entered X c (for_tree m.value) (for_tree a.value) → Entered X c (stmt_tree e) (stmt_tree f)
 for_arm {X} {e} {f} {n} {m} {c} a is same after w =
-    entered_at (ap stmt_tree is ∙ stmt_tree-For n ∙ ap for_tree (sym same)) (ap stmt_tree after ∙ stmt_tree-For _) w
+    entered_at (ap stmt_tree is ∙ stmt_tree-For n ∙ ap (λ b. for_tree b.value) (sym same)) (ap stmt_tree after ∙ stmt_tree-For _) w
 
 decl_entered : {X : Pass} {t u : Tree} {c : Bool} → DeclWalks X t u c → Entered X c t u
 decl_entered (declared {l = tree.VarDecl k} i e f ws) = entered_at e f (plain refl ws)
@@ -140,11 +140,14 @@ pub loop_made : {X : Pass} {l m : LoopTrees} {c d : Bool} (s : Span) (a b : Box 
 loop_made {X} {l} {m} {c} {d} s a b p q e f h k =
     subst (λ z. LoopWalks X z m (c || d)) (sym e) (subst (λ z. LoopWalks X (loop_parts expr_tree stmt_tree s a p) z (c || d)) (sym f) (record { tests = c; bodies = d; own = refl; test = h; body = k; either = refl }))
 
-pub try_arm : {X : Pass} {e f : Stmt} {n m : TryStmt Stmt} {c d q : Bool} (a : BlockStmt Stmt) (h : Option (CatchClause Stmt)) (z : Option (BlockStmt Stmt)) → e ≡ in_stmt.Try n → m ≡ n → f ≡ in_stmt.Try (record n { block = a; handler = h; finalizer = z }) → Walks X c (block_tree stmt_tree m.block) (block_tree stmt_tree a) → HandlerWalks X m.handler h d → Walks X q (option_block_tree stmt_tree m.finalizer) (option_block_tree stmt_tree z) → Entered X (c || (d || q)) (stmt_tree e) (stmt_tree f)
-try_arm {X} {e} {f} {n} {m} {c} {d} {q} a h z is same after w v u =
-    let k : HandlerWalks X n.handler h d = subst (λ k. HandlerWalks X k.handler h d) same v in
+pub try_arm : {X : Pass} {e f : Stmt} {n m : Box (TryStmt Stmt) Global} {c : Bool} (a : Box (TryStmt Stmt) Global) → e ≡ in_stmt.Try n → m ≡ n → f ≡ in_stmt.Try a → Entered X c (try_tree stmt_tree m.value) (try_tree stmt_tree a.value) → Entered X c (stmt_tree e) (stmt_tree f)
+try_arm {X} {e} {f} {n} {m} {c} a is same after w =
+    entered_at (ap stmt_tree is ∙ stmt_tree-Try n ∙ ap (λ b. try_tree stmt_tree b.value) (sym same)) (ap stmt_tree after ∙ stmt_tree-Try _) w
+
+pub try_made : {X : Pass} {c d q : Bool} (n : TryStmt Stmt) (a : BlockStmt Stmt) (h : Option (CatchClause Stmt)) (z : Option (BlockStmt Stmt)) → Walks X c (block_tree stmt_tree n.block) (block_tree stmt_tree a) → HandlerWalks X n.handler h d → Walks X q (option_block_tree stmt_tree n.finalizer) (option_block_tree stmt_tree z) → Entered X (c || (d || q)) (try_tree stmt_tree n) (try_tree stmt_tree (record n { block = a; handler = h; finalizer = z }))
+try_made {X} {c} {d} {q} n a h z w k u =
     let label : try_tree stmt_tree (record n { block = a; handler = h; finalizer = z }) ≡ node (tree.Try (handler_param n.handler)) (n.span ∷ handler_spans n.handler) (block_tree stmt_tree a ⊳ handler_tree stmt_tree h ⊳ option_block_tree stmt_tree z ⊳ ε) = cc (k.param, k.spans) in
-    entered_at (ap stmt_tree is ∙ stmt_tree-Try n) (ap stmt_tree after ∙ stmt_tree-Try _ ∙ label) (plain refl (both (subst (λ k. Walks X c (block_tree stmt_tree k.block) (block_tree stmt_tree a)) same w) (two_children k.block (subst (λ k. Walks X q (option_block_tree stmt_tree k.finalizer) (option_block_tree stmt_tree z)) same u))))
+    entered_at refl label (plain refl (both w (two_children k.block u)))
 
 pub handler_made : {X : Pass} {c : Bool} (e f : Option (CatchClause Stmt)) (n m : CatchClause Stmt) (a : BlockStmt Stmt) → e ≡ Some n → m ≡ n → f ≡ Some (record n { body = a }) → Walks X c (block_tree stmt_tree m.body) (block_tree stmt_tree a) → HandlerWalks X e f c
 handler_made {X} {c} e f n m a is same after w =

@@ -4,12 +4,12 @@ ghost use Rattle.swc_ast.specs.Parts.{option_tree};
 ghost use Rattle.swc_ast.specs.Expressions.{element_node, element_tree, array_tree, object_tree, fn_expr_tree, unary_tree, bin_tree, cond_tree, call_tree, new_tree, seq_tree, tpl_tree};
 ghost use Rattle.swc_ast.specs.Views.{expr_tree, prop_or_spread_tree, function_trees};
 
-use crate::clone::functions::{copy_arrow, copy_boxed_function};
+use crate::clone::functions::{copy_boxed_arrow, copy_boxed_function};
 use crate::clone::leaves::{
     copy_ident, copy_invalid, copy_lit, copy_option_ident, copy_quasis, copy_this,
 };
 use crate::clone::objects::copy_properties;
-use crate::clone::targets::{copy_assign, copy_member, copy_update};
+use crate::clone::targets::{copy_boxed_assign, copy_boxed_update, copy_member};
 use crate::expressions::{
     ArrayLit, BinExpr, CallExpr, CondExpr, Expr, ExprOrSpread, FnExpr, NewExpr, ObjectLit, SeqExpr,
     Tpl, UnaryExpr,
@@ -26,9 +26,9 @@ pub(crate) fn copy_expr(e: &Expr) -> Result<Expr, AllocError>
         Expr::Object(n) => Ok(Expr::Object(copy_object(n)?)),
         Expr::Fn(n) => Ok(Expr::Fn(copy_fn_expr(n)?)),
         Expr::Unary(n) => Ok(Expr::Unary(copy_unary(n)?)),
-        Expr::Update(n) => Ok(Expr::Update(copy_update(n)?)),
+        Expr::Update(n) => Ok(Expr::Update(copy_boxed_update(n)?)),
         Expr::Bin(n) => Ok(Expr::Bin(copy_bin(n)?)),
-        Expr::Assign(n) => Ok(Expr::Assign(copy_assign(n)?)),
+        Expr::Assign(n) => Ok(Expr::Assign(copy_boxed_assign(n)?)),
         Expr::Member(n) => Ok(Expr::Member(copy_member(n)?)),
         Expr::Cond(n) => Ok(Expr::Cond(copy_cond(n)?)),
         Expr::Call(n) => Ok(Expr::Call(copy_call(n)?)),
@@ -37,7 +37,7 @@ pub(crate) fn copy_expr(e: &Expr) -> Result<Expr, AllocError>
         Expr::Ident(n) => Ok(Expr::Ident(copy_ident(n)?)),
         Expr::Lit(n) => Ok(Expr::Lit(copy_lit(n)?)),
         Expr::Tpl(n) => Ok(Expr::Tpl(copy_tpl(n)?)),
-        Expr::Arrow(n) => Ok(Expr::Arrow(copy_arrow(n)?)),
+        Expr::Arrow(n) => Ok(Expr::Arrow(copy_boxed_arrow(n)?)),
         Expr::Invalid(n) => Ok(Expr::Invalid(copy_invalid(n))),
     }
 }

@@ -47,6 +47,15 @@ pub(crate) fn copy_arrow(f: &ArrowExpr) -> Result<ArrowExpr, AllocError>
 }
 
 #[cycle(clone)]
+pub(crate) fn copy_boxed_arrow(n: &Box<ArrowExpr>) -> Result<Box<ArrowExpr>, AllocError>
+    ensures { IfOk result (λ r. arrow_tree r.value ≡ arrow_tree n.now.value) }
+{
+    let alloc = *Box::allocator(n);
+    let copy = copy_arrow(n)?;
+    Ok(Box::new(alloc, copy)?)
+}
+
+#[cycle(clone)]
 pub(crate) fn copy_arrow_body(b: &BlockStmtOrExpr) -> Result<BlockStmtOrExpr, AllocError>
     ensures { IfOk result (λ r. arrow_body_tree r ≡ arrow_body_tree b.now) }
 {

@@ -28,10 +28,10 @@ pub(crate) fn copy_stmt(s: &Stmt) -> Result<Stmt, AllocError>
         Stmt::If(n) => Ok(Stmt::If(copy_if(n)?)),
         Stmt::Switch(n) => Ok(Stmt::Switch(copy_switch(n)?)),
         Stmt::Throw(n) => Ok(Stmt::Throw(copy_throw(n)?)),
-        Stmt::Try(n) => Ok(Stmt::Try(copy_try(n)?)),
+        Stmt::Try(n) => Ok(Stmt::Try(copy_boxed_try(n)?)),
         Stmt::While(n) => Ok(Stmt::While(copy_while(n)?)),
         Stmt::DoWhile(n) => Ok(Stmt::DoWhile(copy_while(n)?)),
-        Stmt::For(n) => Ok(Stmt::For(copy_for(n)?)),
+        Stmt::For(n) => Ok(Stmt::For(copy_boxed_for(n)?)),
         Stmt::Decl(n) => Ok(Stmt::Decl(copy_decl(n)?)),
         Stmt::Expr(n) => Ok(Stmt::Expr(copy_expr_stmt(n)?)),
     }
@@ -193,6 +193,15 @@ pub(crate) fn copy_try(n: &TryStmt) -> Result<TryStmt, AllocError>
 }
 
 #[cycle(clone)]
+pub(crate) fn copy_boxed_try(n: &Box<TryStmt>) -> Result<Box<TryStmt>, AllocError>
+    ensures { IfOk result (λ r. try_tree stmt_tree r.value ≡ try_tree stmt_tree n.now.value) }
+{
+    let alloc = *Box::allocator(n);
+    let copy = copy_try(n)?;
+    Ok(Box::new(alloc, copy)?)
+}
+
+#[cycle(clone)]
 pub(crate) fn copy_option_handler(
     o: &Option<CatchClause>,
 ) -> Result<Option<CatchClause>, AllocError>
@@ -245,6 +254,15 @@ pub(crate) fn copy_for(n: &ForStmt) -> Result<ForStmt, AllocError>
         update,
         body,
     })
+}
+
+#[cycle(clone)]
+pub(crate) fn copy_boxed_for(n: &Box<ForStmt>) -> Result<Box<ForStmt>, AllocError>
+    ensures { IfOk result (λ r. for_tree r.value ≡ for_tree n.now.value) }
+{
+    let alloc = *Box::allocator(n);
+    let copy = copy_for(n)?;
+    Ok(Box::new(alloc, copy)?)
 }
 
 #[cycle(clone)]

@@ -26,6 +26,15 @@ pub(crate) fn copy_update(n: &UpdateExpr) -> Result<UpdateExpr, AllocError>
 }
 
 #[cycle(clone)]
+pub(crate) fn copy_boxed_update(n: &Box<UpdateExpr>) -> Result<Box<UpdateExpr>, AllocError>
+    ensures { IfOk result (λ r. update_tree expr_tree r.value ≡ update_tree expr_tree n.now.value) }
+{
+    let alloc = *Box::allocator(n);
+    let copy = copy_update(n)?;
+    Ok(Box::new(alloc, copy)?)
+}
+
+#[cycle(clone)]
 pub(crate) fn copy_assign(n: &AssignExpr) -> Result<AssignExpr, AllocError>
     ensures { IfOk result (λ r. assign_tree expr_tree r ≡ assign_tree expr_tree n.now) }
 {
@@ -37,6 +46,15 @@ pub(crate) fn copy_assign(n: &AssignExpr) -> Result<AssignExpr, AllocError>
         left,
         right,
     })
+}
+
+#[cycle(clone)]
+pub(crate) fn copy_boxed_assign(n: &Box<AssignExpr>) -> Result<Box<AssignExpr>, AllocError>
+    ensures { IfOk result (λ r. assign_tree expr_tree r.value ≡ assign_tree expr_tree n.now.value) }
+{
+    let alloc = *Box::allocator(n);
+    let copy = copy_assign(n)?;
+    Ok(Box::new(alloc, copy)?)
 }
 
 #[cycle(clone)]

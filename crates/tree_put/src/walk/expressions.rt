@@ -1,6 +1,6 @@
 //! The walk over expressions and functions.
 ghost use Rattle.std.specs.Prelude.{◌≡◌, IfOk};
-ghost use Rattle.swc_ast.specs.Expressions.{member_tree, key_tree, param_tree, unary_tree, key_value_tree};
+ghost use Rattle.swc_ast.specs.Expressions.{assign_tree, member_tree, key_tree, param_tree, unary_tree, update_tree, key_value_tree};
 ghost use Rattle.swc_ast.specs.Views.{expr_tree, prop_or_spread_tree, prop_tree, method_tree, function_trees, arrow_tree, arrow_body_tree};
 ghost use Rattle.swc_ast.specs.declared.expressions.AssignTarget.TheVariants.{Member};
 ghost use Rattle.tree_put.specs.Walks.{Makes, MakesParts, Each, Goes, EachGoes, OptionGoes, ItemGoes, PropGoes, TargetGoes, FunctionGoes, ShorthandGoes, spot_of};
@@ -10,9 +10,9 @@ use crate::walk::statements::put_body;
 use std::alloc::{AllocError, Global};
 use std::mem;
 use swc_ast::{
-    ArrowExpr, AssignTarget, BlockStmtOrExpr, Expr, ExprOrSpread, Function, Ident, IdentName,
-    KeyValueProp, MemberExpr, MemberProp, MethodProp, Pat, Prop, PropName, PropOrSpread, UnaryExpr,
-    UnaryOp,
+    ArrowExpr, AssignExpr, AssignTarget, BlockStmtOrExpr, Expr, ExprOrSpread, Function, Ident,
+    IdentName, KeyValueProp, MemberExpr, MemberProp, MethodProp, Pat, Prop, PropName, PropOrSpread,
+    UnaryExpr, UnaryOp, UpdateExpr,
 };
 
 /// Walks an expression: what takes its place, or its parts.
@@ -52,7 +52,7 @@ fn put_parts<P: Puts>(alloc: Global, rules: &mut P, e: &mut Expr) -> Result<(), 
             Ok(())
         }
         Expr::Update(n) => {
-            put_target(alloc, rules, &mut n.arg)?;
+            put_boxed_update(alloc, rules, n)?;
             Ok(())
         }
         Expr::Bin(n) => {
@@ -61,8 +61,7 @@ fn put_parts<P: Puts>(alloc: Global, rules: &mut P, e: &mut Expr) -> Result<(), 
             Ok(())
         }
         Expr::Assign(n) => {
-            put_target(alloc, rules, &mut n.left)?;
-            put_boxed(alloc, rules, Spot::Here, &mut n.right)?;
+            put_boxed_assign(alloc, rules, n)?;
             Ok(())
         }
         Expr::Member(n) => {
@@ -104,7 +103,7 @@ fn put_parts<P: Puts>(alloc: Global, rules: &mut P, e: &mut Expr) -> Result<(), 
             Ok(())
         }
         Expr::Arrow(n) => {
-            put_arrow(alloc, rules, n)?;
+            put_boxed_arrow(alloc, rules, n)?;
             Ok(())
         }
         Expr::This(_) => Ok(()),
@@ -238,6 +237,45 @@ fn put_target<P: Puts>(alloc: Global, rules: &mut P, t: &mut AssignTarget) -> Re
             Ok(())
         }
     }
+}
+
+#[cycle(walk)]
+fn put_boxed_update<P: Puts>(
+    alloc: Global,
+    rules: &mut P,
+    n: &mut Box<UpdateExpr>,
+) -> Result<(), AllocError>
+    ensures { IfOk result (λ u. MakesParts P.puts (update_tree expr_tree n.old.value) (P.state rules.old) (update_tree expr_tree n.new.value) (P.state rules.new)) }
+{
+    put_update(alloc, rules, n)
+}
+
+#[cycle(walk)]
+fn put_update<P: Puts>(alloc: Global, rules: &mut P, n: &mut UpdateExpr) -> Result<(), AllocError>
+    ensures { IfOk result (λ u. MakesParts P.puts (update_tree expr_tree n.old) (P.state rules.old) (update_tree expr_tree n.new) (P.state rules.new)) }
+{
+    put_target(alloc, rules, &mut n.arg)?;
+    Ok(())
+}
+
+#[cycle(walk)]
+fn put_boxed_assign<P: Puts>(
+    alloc: Global,
+    rules: &mut P,
+    n: &mut Box<AssignExpr>,
+) -> Result<(), AllocError>
+    ensures { IfOk result (λ u. MakesParts P.puts (assign_tree expr_tree n.old.value) (P.state rules.old) (assign_tree expr_tree n.new.value) (P.state rules.new)) }
+{
+    put_assign(alloc, rules, n)
+}
+
+#[cycle(walk)]
+fn put_assign<P: Puts>(alloc: Global, rules: &mut P, n: &mut AssignExpr) -> Result<(), AllocError>
+    ensures { IfOk result (λ u. MakesParts P.puts (assign_tree expr_tree n.old) (P.state rules.old) (assign_tree expr_tree n.new) (P.state rules.new)) }
+{
+    put_target(alloc, rules, &mut n.left)?;
+    put_boxed(alloc, rules, Spot::Here, &mut n.right)?;
+    Ok(())
 }
 
 #[cycle(walk)]
@@ -428,6 +466,17 @@ fn put_param<P: Puts>(alloc: Global, rules: &mut P, p: &mut Pat) -> Result<(), A
             Ok(())
         }
     }
+}
+
+#[cycle(walk)]
+fn put_boxed_arrow<P: Puts>(
+    alloc: Global,
+    rules: &mut P,
+    n: &mut Box<ArrowExpr>,
+) -> Result<(), AllocError>
+    ensures { IfOk result (λ u. MakesParts P.puts (arrow_tree n.old.value) (P.state rules.old) (arrow_tree n.new.value) (P.state rules.new)) }
+{
+    put_arrow(alloc, rules, n)
 }
 
 #[cycle(walk)]

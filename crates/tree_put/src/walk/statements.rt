@@ -83,7 +83,7 @@ pub fn put_stmt<P: Puts>(alloc: Global, rules: &mut P, s: &mut Stmt) -> Result<(
             Ok(())
         }
         Stmt::Try(n) => {
-            put_try(alloc, rules, n)?;
+            put_boxed_try(alloc, rules, n)?;
             Ok(())
         }
         Stmt::While(n) => {
@@ -95,7 +95,7 @@ pub fn put_stmt<P: Puts>(alloc: Global, rules: &mut P, s: &mut Stmt) -> Result<(
             Ok(())
         }
         Stmt::For(n) => {
-            put_for(alloc, rules, n)?;
+            put_boxed_for(alloc, rules, n)?;
             Ok(())
         }
         Stmt::Decl(n) => {
@@ -135,6 +135,17 @@ fn put_alt<P: Puts>(
         }
         None => Ok(()),
     }
+}
+
+#[cycle(walk)]
+fn put_boxed_try<P: Puts>(
+    alloc: Global,
+    rules: &mut P,
+    n: &mut Box<TryStmt>,
+) -> Result<(), AllocError>
+    ensures { IfOk result (λ u. Goes P.puts (try_tree stmt_tree) (P.state rules.old) n.old.value n.new.value (P.state rules.new)) }
+{
+    put_try(alloc, rules, n)
 }
 
 #[cycle(walk)]
@@ -258,6 +269,17 @@ fn put_do_while<P: Puts>(alloc: Global, rules: &mut P, n: &mut WhileStmt) -> Res
     put_boxed_stmt(alloc, rules, &mut n.body)?;
     put_boxed(alloc, rules, Spot::Here, &mut n.test)?;
     Ok(())
+}
+
+#[cycle(walk)]
+fn put_boxed_for<P: Puts>(
+    alloc: Global,
+    rules: &mut P,
+    n: &mut Box<ForStmt>,
+) -> Result<(), AllocError>
+    ensures { IfOk result (λ u. Goes P.puts for_tree (P.state rules.old) n.old.value n.new.value (P.state rules.new)) }
+{
+    put_for(alloc, rules, n)
 }
 
 #[cycle(walk)]

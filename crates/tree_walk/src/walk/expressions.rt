@@ -1,6 +1,6 @@
 //! The walk over expressions and functions.
 ghost use Rattle.std.specs.Prelude.{IfOk};
-ghost use Rattle.swc_ast.specs.Expressions.{member_tree, key_tree, param_tree};
+ghost use Rattle.swc_ast.specs.Expressions.{member_tree, key_tree, param_tree, update_tree, assign_tree};
 ghost use Rattle.swc_ast.specs.Views.{expr_tree, prop_or_spread_tree, prop_tree, method_tree, function_trees, arrow_tree, arrow_body_tree};
 ghost use Rattle.tree_walk.specs.Walks.{Inside, Made, Placed, Each};
 ghost use Rattle.tree_walk.specs.Parts.{OptionWalks, ItemWalks, PropWalks, TargetWalks, CalleeWalks, OperandWalks};
@@ -11,8 +11,8 @@ use crate::rules::{Place, Rules};
 use crate::walk::statements::walk_body;
 use std::alloc::AllocError;
 use swc_ast::{
-    ArrowExpr, AssignTarget, BlockStmtOrExpr, Expr, ExprOrSpread, Function, MemberExpr, MemberProp,
-    MethodProp, Pat, Prop, PropName, PropOrSpread, UnaryOp,
+    ArrowExpr, AssignExpr, AssignTarget, BlockStmtOrExpr, Expr, ExprOrSpread, Function, MemberExpr,
+    MemberProp, MethodProp, Pat, Prop, PropName, PropOrSpread, UnaryOp, UpdateExpr,
 };
 
 /// Walks an expression: the rules in front of its parts, its parts, and then the rules at the expression.
@@ -45,8 +45,8 @@ pub fn walk_parts<R: Rules>(rules: &R, place: Place, e: &mut Expr) -> Result<boo
             Ok(arg)
         }
         Expr::Update(n) => {
-            let arg = walk_target(rules, &mut n.arg)?;
-            Ok(arg)
+            let update = walk_boxed_update(rules, n)?;
+            Ok(update)
         }
         Expr::Bin(n) => {
             let left = walk_boxed(rules, part, &mut n.left)?;
@@ -54,9 +54,8 @@ pub fn walk_parts<R: Rules>(rules: &R, place: Place, e: &mut Expr) -> Result<boo
             Ok(left | right)
         }
         Expr::Assign(n) => {
-            let target = walk_target(rules, &mut n.left)?;
-            let right = walk_boxed(rules, part, &mut n.right)?;
-            Ok(target | right)
+            let assign = walk_boxed_assign(rules, part, n)?;
+            Ok(assign)
         }
         Expr::Member(n) => {
             let member = walk_member(rules, part, n)?;
@@ -95,7 +94,7 @@ pub fn walk_parts<R: Rules>(rules: &R, place: Place, e: &mut Expr) -> Result<boo
             Ok(function)
         }
         Expr::Arrow(n) => {
-            let arrow = walk_arrow(rules, n)?;
+            let arrow = walk_boxed_arrow(rules, n)?;
             Ok(arrow)
         }
         Expr::This(_) => Ok(false),
@@ -205,6 +204,46 @@ pub fn walk_target<R: Rules>(rules: &R, t: &mut AssignTarget) -> Result<bool, Al
             Ok(member)
         }
     }
+}
+
+#[cycle(walk)]
+#[inline(always)]
+pub fn walk_boxed_update<R: Rules>(rules: &R, n: &mut Box<UpdateExpr>) -> Result<bool, AllocError>
+    ensures { IfOk result (λ c. Inside (R.pass rules.now) c (update_tree expr_tree n.old.value) (update_tree expr_tree n.new.value)) }
+{
+    walk_update(rules, n)
+}
+
+#[cycle(walk)]
+#[inline(always)]
+pub fn walk_update<R: Rules>(rules: &R, n: &mut UpdateExpr) -> Result<bool, AllocError>
+    ensures { IfOk result (λ c. Inside (R.pass rules.now) c (update_tree expr_tree n.old) (update_tree expr_tree n.new)) }
+{
+    let arg = walk_target(rules, &mut n.arg)?;
+    Ok(arg)
+}
+
+#[cycle(walk)]
+#[inline(always)]
+pub fn walk_boxed_assign<R: Rules>(
+    rules: &R,
+    part: Place,
+    n: &mut Box<AssignExpr>,
+) -> Result<bool, AllocError>
+    ensures { IfOk result (λ c. Inside (R.pass rules.now) c (assign_tree expr_tree n.old.value) (assign_tree expr_tree n.new.value)) }
+{
+    walk_assign(rules, part, n)
+}
+
+/// Walks an assignment; its value stands in the place that is given.
+#[cycle(walk)]
+#[inline(always)]
+pub fn walk_assign<R: Rules>(rules: &R, part: Place, n: &mut AssignExpr) -> Result<bool, AllocError>
+    ensures { IfOk result (λ c. Inside (R.pass rules.now) c (assign_tree expr_tree n.old) (assign_tree expr_tree n.new)) }
+{
+    let target = walk_target(rules, &mut n.left)?;
+    let right = walk_boxed(rules, part, &mut n.right)?;
+    Ok(target | right)
 }
 
 #[cycle(walk)]
@@ -381,6 +420,14 @@ pub fn walk_default<R: Rules>(rules: &R, p: &mut Pat) -> Result<bool, AllocError
             Ok(made)
         }
     }
+}
+
+#[cycle(walk)]
+#[inline(always)]
+pub fn walk_boxed_arrow<R: Rules>(rules: &R, n: &mut Box<ArrowExpr>) -> Result<bool, AllocError>
+    ensures { IfOk result (λ c. Inside (R.pass rules.now) c (arrow_tree n.old.value) (arrow_tree n.new.value)) }
+{
+    walk_arrow(rules, n)
 }
 
 #[cycle(walk)]

@@ -1,7 +1,7 @@
 //! The walk over statements and declarations.
 ghost use Rattle.std.specs.Prelude.{IfOk};
 ghost use Rattle.swc_ast.specs.Expressions.{body_tree};
-ghost use Rattle.swc_ast.specs.Statements.{block_tree, option_block_tree, option_init_tree, init_tree, var_tree};
+ghost use Rattle.swc_ast.specs.Statements.{block_tree, option_block_tree, option_init_tree, init_tree, try_tree, var_tree};
 ghost use Rattle.swc_ast.specs.Views.{expr_tree, stmt_tree, decl_tree, if_tree, switch_tree, case_trees, loop_trees, for_tree};
 ghost use Rattle.tree_walk.specs.Walks.{Made, Ready, Each};
 ghost use Rattle.tree_walk.specs.Parts.{OptionWalks};
@@ -11,7 +11,7 @@ use crate::rules::{ListPlace, Place, Rules};
 use crate::walk::expressions::{walk_boxed, walk_boxed_function, walk_option};
 use std::alloc::AllocError;
 use swc_ast::{
-    BlockStmt, CatchClause, Decl, ForStmt, IfStmt, Stmt, SwitchCase, SwitchStmt, VarDecl,
+    BlockStmt, CatchClause, Decl, ForStmt, IfStmt, Stmt, SwitchCase, SwitchStmt, TryStmt, VarDecl,
     VarDeclOrExpr, VarDeclarator, WhileStmt,
 };
 
@@ -129,10 +129,8 @@ pub fn walk_stmt_parts<R: Rules>(rules: &R, s: &mut Stmt) -> Result<bool, AllocE
             Ok(made)
         }
         Stmt::Try(n) => {
-            let block = walk_inner_block(rules, &mut n.block)?;
-            let handler = walk_handler(rules, &mut n.handler)?;
-            let finalizer = walk_finalizer(rules, &mut n.finalizer)?;
-            Ok(block | (handler | finalizer))
+            let made = walk_boxed_try(rules, n)?;
+            Ok(made)
         }
         Stmt::While(n) => {
             let made = walk_loop(rules, n)?;
@@ -143,7 +141,7 @@ pub fn walk_stmt_parts<R: Rules>(rules: &R, s: &mut Stmt) -> Result<bool, AllocE
             Ok(made)
         }
         Stmt::For(n) => {
-            let made = walk_for(rules, n)?;
+            let made = walk_boxed_for(rules, n)?;
             Ok(made)
         }
         Stmt::Decl(n) => {
@@ -175,6 +173,23 @@ pub fn walk_alt<R: Rules>(rules: &R, s: &mut Option<Box<Stmt>>) -> Result<bool, 
         }
         None => Ok(false),
     }
+}
+
+#[cycle(walk)]
+pub fn walk_boxed_try<R: Rules>(rules: &R, n: &mut Box<TryStmt>) -> Result<bool, AllocError>
+    ensures { IfOk result (λ c. Ready (R.pass rules.now) (try_tree stmt_tree n.old.value) (try_tree stmt_tree n.new.value) c) }
+{
+    walk_try(rules, n)
+}
+
+#[cycle(walk)]
+pub fn walk_try<R: Rules>(rules: &R, n: &mut TryStmt) -> Result<bool, AllocError>
+    ensures { IfOk result (λ c. Ready (R.pass rules.now) (try_tree stmt_tree n.old) (try_tree stmt_tree n.new) c) }
+{
+    let block = walk_inner_block(rules, &mut n.block)?;
+    let handler = walk_handler(rules, &mut n.handler)?;
+    let finalizer = walk_finalizer(rules, &mut n.finalizer)?;
+    Ok(block | (handler | finalizer))
 }
 
 #[cycle(walk)]
@@ -250,6 +265,13 @@ pub fn walk_loop<R: Rules>(rules: &R, n: &mut WhileStmt) -> Result<bool, AllocEr
     let test = walk_boxed(rules, Place::Value, &mut n.test)?;
     let body = walk_boxed_stmt(rules, &mut n.body)?;
     Ok(test | body)
+}
+
+#[cycle(walk)]
+pub fn walk_boxed_for<R: Rules>(rules: &R, n: &mut Box<ForStmt>) -> Result<bool, AllocError>
+    ensures { IfOk result (λ c. Ready (R.pass rules.now) (for_tree n.old.value) (for_tree n.new.value) c) }
+{
+    walk_for(rules, n)
 }
 
 #[cycle(walk)]

@@ -7,5 +7,5 @@ use Rattle.branch_loops.proofs.dos.take_endless.Goals as goal
 
 pub returns : goal.returns
 returns c =
-    endless_is c.args.n.now.span c.in_ok-body.body
+    endless_is c.in_ok-made.made c.args.n.now.span c.in_ok-body.body c.in_ok-made.ensures.ok
     ∙ ap (λ x. node For (c.args.n.now.span ∷ []) (absent ⊳ absent ⊳ absent ⊳ x ⊳ ε)) (ap stmt_tree c.in_ok-body.ensures.ok ∙ c.take_stmt.ensures ∙ ap stmt_tree c.deref_mut.ensures.value)

@@ -34,6 +34,9 @@ decreases-run_labelled l = 8 * goal.size-run_labelled l + 3
 abbrev pub decreases-run_try : goal.decreases-run_try
 decreases-run_try l = 8 * goal.size-run_try l + 5
 
+abbrev pub decreases-run_boxed_try : goal.decreases-run_boxed_try
+decreases-run_boxed_try l = 8 * goal.size-run_boxed_try l + 6
+
 abbrev pub decreases-run_handler : goal.decreases-run_handler
 decreases-run_handler l = 8 * goal.size-run_handler l + 4
 

@@ -13,4 +13,4 @@ pub returns-in-Labeled-clause-steps : goal.returns-in-Labeled-clause-steps
 returns-in-Labeled-clause-steps c = turns_in in_stmt.Labeled (labeled_tree stmt_tree) stmt_tree-Labeled _ _ _ c.in-Labeled.n _ c.fold_label.new.n _ c.in-Labeled.is c.in-Labeled.n-is (search rules) (c.fold_label.ensures.steps _)
 
 pub returns-in-Try-clause-steps : goal.returns-in-Try-clause-steps
-returns-in-Try-clause-steps c = all_turn_in in_stmt.Try (try_tree stmt_tree) stmt_tree-Try _ _ _ _ c.in-Try.n _ c.fold_try.new.n c.in-Try.is c.in-Try.n-is (search rules) c.fold_try.ensures.steps
+returns-in-Try-clause-steps c = all_turn_in in_stmt.Try (λ b. try_tree stmt_tree b.value) stmt_tree-Try _ _ _ _ c.in-Try.n _ c.fold_boxed_try.new.n c.in-Try.is c.in-Try.n-is (search rules) c.fold_boxed_try.ensures.steps

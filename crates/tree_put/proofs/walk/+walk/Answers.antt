@@ -1,7 +1,7 @@
 use Rattle.std.proofs.Common.{rules, refl, sym, ap, ◌∙◌}
 use Rattle.swc_ast.proofs.Equations.{function_trees-is, arrow_tree-is, if_tree-is, case_trees-is, loop_trees-is, for_tree-is}
 use Rattle.tree_put.proofs.Putting.{told, entered, stayed, became, each_more, each_all, each_list, in_scope}
-use Rattle.tree_put.proofs.Arms.{is_asked, this_arm, ident_arm, lit_arm, invalid_arm, bin_arm, cond_arm, new_arm, seq_arm, tpl_arm, object_arm, unary_arm, member_arm, arrow_arm, update_arm, assign_arm, call_arm, array_arm, member_parts, member_target, fn_arm, target_name, target_at, operand_made, operand_deleted}
+use Rattle.tree_put.proofs.Arms.{is_asked, this_arm, ident_arm, lit_arm, invalid_arm, bin_arm, cond_arm, new_arm, seq_arm, tpl_arm, object_arm, unary_arm, member_arm, arrow_arm, update_arm, update_made, assign_arm, assign_made, call_arm, array_arm, member_parts, member_target, fn_arm, target_name, target_at, operand_made, operand_deleted}
 use Rattle.tree_put.proofs.FunctionArms.{spread_arm, prop_arm, key_value_arm, key_value_made, method_arm, method_rolled, key_stays, computed_key, name_param, assign_param, function_made, arrow_made, arrow_block, arrow_expr, prop_becomes, prop_stays}
 use Rattle.tree_put.proofs.StatementArms.{body_made, block_made, block_arm, empty_arm, break_arm, continue_arm, return_arm, labeled_arm, throw_arm, expr_stmt_arm, if_made, if_arm, switch_arm, for_arm, decl_arm, try_arm, while_arm, do_while_arm, loop_made, do_loop_made, for_made, no_handler, no_finalizer, try_made, switch_rolled, case_made, declarator_made, var_made, fn_decl_arm, var_arm, no_init}
 use Rattle.swc_ast.specs.Expressions.{key_tree}
@@ -38,14 +38,20 @@ expressions::put_parts-returns-in_ok-put_items-in-Array g t c = array_arm c.put_
 pub expressions::put_parts-returns-in_ok-put_unary-in-Unary : goal.expressions::put_parts-returns-in_ok-put_unary-in-Unary
 expressions::put_parts-returns-in_ok-put_unary-in-Unary g t c = unary_arm c.put_unary.new.n c.in-Unary.is c.in-Unary.n-is (search rules) c.in_ok-put_unary-in-Unary.ensures
 
-pub expressions::put_parts-returns-in_ok-put_target-in-Update : goal.expressions::put_parts-returns-in_ok-put_target-in-Update
-expressions::put_parts-returns-in_ok-put_target-in-Update g t c = update_arm c.put_target.new.t c.in-Update.is c.in-Update.n-is (search rules) c.in_ok-put_target-in-Update.ensures
+pub expressions::put_parts-returns-in_ok-put_boxed_update-in-Update : goal.expressions::put_parts-returns-in_ok-put_boxed_update-in-Update
+expressions::put_parts-returns-in_ok-put_boxed_update-in-Update g t c = update_arm c.put_boxed_update.new.n c.in-Update.is c.in-Update.n-is (search rules) c.in_ok-put_boxed_update-in-Update.ensures
+
+pub expressions::put_update-returns : goal.expressions::put_update-returns
+expressions::put_update-returns g t c = update_made c.args.n.now c.put_target.new.t c.in_ok-put_target.ensures
 
 pub expressions::put_parts-returns-in_ok-put_boxed-in-Bin-2 : goal.expressions::put_parts-returns-in_ok-put_boxed-in-Bin-2
 expressions::put_parts-returns-in_ok-put_boxed-in-Bin-2 g t c = bin_arm c.put_boxed.new.e c.put_boxed-in-Bin.new.e c.in-Bin.is c.in-Bin.n-is (search rules) c.in_ok-put_boxed-in-Bin.ensures c.in_ok-put_boxed-in-Bin-2.ensures
 
-pub expressions::put_parts-returns-in_ok-put_boxed-in-Assign : goal.expressions::put_parts-returns-in_ok-put_boxed-in-Assign
-expressions::put_parts-returns-in_ok-put_boxed-in-Assign g t c = assign_arm c.put_target-in-Assign.new.t c.put_boxed-in-Assign.new.e c.in-Assign.is c.in-Assign.n-is (search rules) c.in_ok-put_target-in-Assign.ensures c.in_ok-put_boxed-in-Assign.ensures
+pub expressions::put_parts-returns-in_ok-put_boxed_assign-in-Assign : goal.expressions::put_parts-returns-in_ok-put_boxed_assign-in-Assign
+expressions::put_parts-returns-in_ok-put_boxed_assign-in-Assign g t c = assign_arm c.put_boxed_assign.new.n c.in-Assign.is c.in-Assign.n-is (search rules) c.in_ok-put_boxed_assign-in-Assign.ensures
+
+pub expressions::put_assign-returns : goal.expressions::put_assign-returns
+expressions::put_assign-returns g t c = assign_made c.args.n.now c.put_target.new.t c.put_boxed.new.e c.in_ok-put_target.ensures c.in_ok-put_boxed.ensures
 
 pub expressions::put_parts-returns-in_ok-put_member-in-Member : goal.expressions::put_parts-returns-in_ok-put_member-in-Member
 expressions::put_parts-returns-in_ok-put_member-in-Member g t c = member_arm c.put_member.new.n c.in-Member.is c.in-Member.n-is (search rules) c.in_ok-put_member-in-Member.ensures
@@ -71,8 +77,8 @@ expressions::put_parts-returns-in_ok-put_props-in-Object g t c = object_arm c.pu
 pub expressions::put_parts-returns-in_ok-close-in-Fn : goal.expressions::put_parts-returns-in_ok-close-in-Fn
 expressions::put_parts-returns-in_ok-close-in-Fn g t c = fn_arm c.put_boxed_function.new.n c.in-Fn.is c.in-Fn.n-is (search rules) c.in_ok-open-in-Fn.ensures c.in_ok-put_boxed_function-in-Fn.ensures c.in_ok-close-in-Fn.ensures
 
-pub expressions::put_parts-returns-in_ok-put_arrow-in-Arrow : goal.expressions::put_parts-returns-in_ok-put_arrow-in-Arrow
-expressions::put_parts-returns-in_ok-put_arrow-in-Arrow g t c = arrow_arm c.put_arrow.new.n c.in-Arrow.is c.in-Arrow.n-is (search rules) c.in_ok-put_arrow-in-Arrow.ensures
+pub expressions::put_parts-returns-in_ok-put_boxed_arrow-in-Arrow : goal.expressions::put_parts-returns-in_ok-put_boxed_arrow-in-Arrow
+expressions::put_parts-returns-in_ok-put_boxed_arrow-in-Arrow g t c = arrow_arm c.put_boxed_arrow.new.n c.in-Arrow.is c.in-Arrow.n-is (search rules) c.in_ok-put_boxed_arrow-in-Arrow.ensures
 
 pub expressions::put_exprs-loop-i-init : goal.expressions::put_exprs-loop-i-init
 expressions::put_exprs-loop-i-init g t c = (search rules, none)
@@ -242,8 +248,8 @@ statements::put_stmt-returns-in_ok-put_switch-in-Switch g t c = switch_arm c.put
 pub statements::put_stmt-returns-in_ok-put_boxed-in-Throw : goal.statements::put_stmt-returns-in_ok-put_boxed-in-Throw
 statements::put_stmt-returns-in_ok-put_boxed-in-Throw g t c = throw_arm c.put_boxed.new.e c.in-Throw.is c.in-Throw.n-is (search rules) c.in_ok-put_boxed-in-Throw.ensures
 
-pub statements::put_stmt-returns-in_ok-put_try-in-Try : goal.statements::put_stmt-returns-in_ok-put_try-in-Try
-statements::put_stmt-returns-in_ok-put_try-in-Try g t c = try_arm c.put_try.new.n c.in-Try.is c.in-Try.n-is (search rules) c.in_ok-put_try-in-Try.ensures
+pub statements::put_stmt-returns-in_ok-put_boxed_try-in-Try : goal.statements::put_stmt-returns-in_ok-put_boxed_try-in-Try
+statements::put_stmt-returns-in_ok-put_boxed_try-in-Try g t c = try_arm c.put_boxed_try.new.n c.in-Try.is c.in-Try.n-is (search rules) c.in_ok-put_boxed_try-in-Try.ensures
 
 pub statements::put_stmt-returns-in_ok-put_while-in-While : goal.statements::put_stmt-returns-in_ok-put_while-in-While
 statements::put_stmt-returns-in_ok-put_while-in-While g t c = while_arm c.put_while.new.n c.in-While.is c.in-While.n-is (search rules) c.in_ok-put_while-in-While.ensures
@@ -251,8 +257,8 @@ statements::put_stmt-returns-in_ok-put_while-in-While g t c = while_arm c.put_wh
 pub statements::put_stmt-returns-in_ok-put_do_while-in-DoWhile : goal.statements::put_stmt-returns-in_ok-put_do_while-in-DoWhile
 statements::put_stmt-returns-in_ok-put_do_while-in-DoWhile g t c = do_while_arm c.put_do_while.new.n c.in-DoWhile.is c.in-DoWhile.n-is (search rules) c.in_ok-put_do_while-in-DoWhile.ensures
 
-pub statements::put_stmt-returns-in_ok-put_for-in-For : goal.statements::put_stmt-returns-in_ok-put_for-in-For
-statements::put_stmt-returns-in_ok-put_for-in-For g t c = for_arm c.put_for.new.n c.in-For.is c.in-For.n-is (search rules) c.in_ok-put_for-in-For.ensures
+pub statements::put_stmt-returns-in_ok-put_boxed_for-in-For : goal.statements::put_stmt-returns-in_ok-put_boxed_for-in-For
+statements::put_stmt-returns-in_ok-put_boxed_for-in-For g t c = for_arm c.put_boxed_for.new.n c.in-For.is c.in-For.n-is (search rules) c.in_ok-put_boxed_for-in-For.ensures
 
 pub statements::put_stmt-returns-in_ok-put_decl-in-Decl : goal.statements::put_stmt-returns-in_ok-put_decl-in-Decl
 statements::put_stmt-returns-in_ok-put_decl-in-Decl g t c = decl_arm c.put_decl.new.d c.in-Decl.is c.in-Decl.n-is (search rules) c.in_ok-put_decl-in-Decl.ensures

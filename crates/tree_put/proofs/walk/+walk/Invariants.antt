@@ -37,6 +37,18 @@ decreases-expressions::put_items g l = 16 * goal.size-expressions::put_items g l
 abbrev pub decreases-expressions::put_target : goal.decreases-expressions::put_target
 decreases-expressions::put_target g l = 16 * goal.size-expressions::put_target g l + 5
 
+abbrev pub decreases-expressions::put_update : goal.decreases-expressions::put_update
+decreases-expressions::put_update g l = 16 * goal.size-expressions::put_update g l + 6
+
+abbrev pub decreases-expressions::put_boxed_update : goal.decreases-expressions::put_boxed_update
+decreases-expressions::put_boxed_update g l = 16 * goal.size-expressions::put_boxed_update g l + 7
+
+abbrev pub decreases-expressions::put_assign : goal.decreases-expressions::put_assign
+decreases-expressions::put_assign g l = 16 * goal.size-expressions::put_assign g l + 6
+
+abbrev pub decreases-expressions::put_boxed_assign : goal.decreases-expressions::put_boxed_assign
+decreases-expressions::put_boxed_assign g l = 16 * goal.size-expressions::put_boxed_assign g l + 7
+
 abbrev pub decreases-expressions::put_option : goal.decreases-expressions::put_option
 decreases-expressions::put_option g l = 16 * goal.size-expressions::put_option g l + 3
 
@@ -73,6 +85,9 @@ decreases-expressions::put_param g l = 16 * goal.size-expressions::put_param g l
 abbrev pub decreases-expressions::put_arrow : goal.decreases-expressions::put_arrow
 decreases-expressions::put_arrow g l = 16 * goal.size-expressions::put_arrow g l
 
+abbrev pub decreases-expressions::put_boxed_arrow : goal.decreases-expressions::put_boxed_arrow
+decreases-expressions::put_boxed_arrow g l = 16 * goal.size-expressions::put_boxed_arrow g l + 1
+
 abbrev pub decreases-expressions::put_arrow_body : goal.decreases-expressions::put_arrow_body
 decreases-expressions::put_arrow_body g l = 16 * goal.size-expressions::put_arrow_body g l
 
@@ -96,6 +111,9 @@ decreases-statements::put_alt g l = 16 * goal.size-statements::put_alt g l + 3
 
 abbrev pub decreases-statements::put_try : goal.decreases-statements::put_try
 decreases-statements::put_try g l = 16 * goal.size-statements::put_try g l + 8
+
+abbrev pub decreases-statements::put_boxed_try : goal.decreases-statements::put_boxed_try
+decreases-statements::put_boxed_try g l = 16 * goal.size-statements::put_boxed_try g l + 9
 
 abbrev pub decreases-statements::put_handler : goal.decreases-statements::put_handler
 decreases-statements::put_handler g l = 16 * goal.size-statements::put_handler g l + 7
@@ -126,6 +144,9 @@ decreases-statements::put_do_while g l = 16 * goal.size-statements::put_do_while
 
 abbrev pub decreases-statements::put_for : goal.decreases-statements::put_for
 decreases-statements::put_for g l = 16 * goal.size-statements::put_for g l
+
+abbrev pub decreases-statements::put_boxed_for : goal.decreases-statements::put_boxed_for
+decreases-statements::put_boxed_for g l = 16 * goal.size-statements::put_boxed_for g l + 1
 
 abbrev pub decreases-statements::put_init : goal.decreases-statements::put_init
 decreases-statements::put_init g l = 16 * goal.size-statements::put_init g l + 8

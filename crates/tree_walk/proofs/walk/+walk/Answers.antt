@@ -1,9 +1,9 @@
 use Rattle.std.proofs.Common.{rules, refl, sym, ap, ◌∙◌, subst, false}
 use Rattle.swc_ast.proofs.Equations.{expr_tree-This, expr_tree-Ident, expr_tree-Lit, expr_tree-Invalid, prop_tree-Shorthand, stmt_tree-Empty, stmt_tree-Break, stmt_tree-Continue, function_trees-is, arrow_tree-is, if_tree-is, case_trees-is, loop_trees-is, for_tree-is}
 use Rattle.tree_walk.proofs.FunctionArms.{object_arm, fn_arm, arrow_arm, spread_arm, prop_arm, key_value_arm, method_arm, method_rolled, computed_key, assign_param, param_unseen, function_made, arrow_made, arrow_block, arrow_expr}
-use Rattle.tree_walk.proofs.StatementArms.{option_some, option_none, list_then, block_arm, return_arm, labeled_arm, throw_arm, expr_stmt_arm, if_arm, switch_arm, for_arm, decl_arm, while_arm, do_while_arm, loop_made, try_arm, handler_made, no_handler, if_made, for_made, switch_rolled, case_made, declarator_made, var_made, fn_decl_arm, var_arm, head_at, init_var, init_shut, init_expr, part_shut, part_walks}
+use Rattle.tree_walk.proofs.StatementArms.{option_some, option_none, list_then, block_arm, return_arm, labeled_arm, throw_arm, expr_stmt_arm, if_arm, switch_arm, for_arm, decl_arm, while_arm, do_while_arm, loop_made, try_arm, try_made, handler_made, no_handler, if_made, for_made, switch_rolled, case_made, declarator_made, var_made, fn_decl_arm, var_arm, head_at, init_var, init_shut, init_expr, part_shut, part_walks}
 use Rattle.tree_walk.proofs.Walked.{walks_at, shortened, made_then, opened_then, opened_closed, placed_then, placed_opened, placed_closed, shallow_at, entered_at_shallow, unvisited_at, each_all, each_more}
-use Rattle.tree_walk.proofs.Arms.{bin_arm, cond_arm, unary_arm, update_arm, assign_arm, member_arm, call_arm, new_arm, seq_arm, tpl_arm, array_arm, member_parts}
+use Rattle.tree_walk.proofs.Arms.{bin_arm, cond_arm, unary_arm, update_arm, update_made, assign_arm, assign_made, member_arm, call_arm, new_arm, seq_arm, tpl_arm, array_arm, member_parts}
 use Rattle.tree_walk.proofs.Targets.{shallow_lit, member_callee_at, plain_callee, kept_callee, plain_operand, kept_operand, member_target, name_target}
 use Rattle.swc_ast.specs.declared.expressions.AssignTarget.TheVariants as target
 use Rattle.swc_ast.specs.Statements.{option_block_tree, option_init_tree}
@@ -38,14 +38,20 @@ expressions::walk_parts-returns-in_ok-items-in-Array g t c = array_arm c.walk_it
 pub expressions::walk_parts-returns-in_ok-arg-in-Unary : goal.expressions::walk_parts-returns-in_ok-arg-in-Unary
 expressions::walk_parts-returns-in_ok-arg-in-Unary g t c = unary_arm c.walk_operand.new.e c.in-Unary.is c.in-Unary.n-is (search rules) c.in_ok-arg-in-Unary.ensures
 
-pub expressions::walk_parts-returns-in_ok-arg-in-Update : goal.expressions::walk_parts-returns-in_ok-arg-in-Update
-expressions::walk_parts-returns-in_ok-arg-in-Update g t c = update_arm c.walk_target.new.t c.in-Update.is c.in-Update.n-is (search rules) c.in_ok-arg-in-Update.ensures
+pub expressions::walk_parts-returns-in_ok-update-in-Update : goal.expressions::walk_parts-returns-in_ok-update-in-Update
+expressions::walk_parts-returns-in_ok-update-in-Update g t c = update_arm c.walk_boxed_update.new.n c.in-Update.is c.in-Update.n-is (search rules) c.in_ok-update-in-Update.ensures
+
+pub expressions::walk_update-returns : goal.expressions::walk_update-returns
+expressions::walk_update-returns g t c = update_made c.args.n.now c.walk_target.new.t c.in_ok-arg.ensures
 
 pub expressions::walk_parts-returns-in_ok-right-in-Bin : goal.expressions::walk_parts-returns-in_ok-right-in-Bin
 expressions::walk_parts-returns-in_ok-right-in-Bin g t c = bin_arm c.walk_boxed.new.e c.walk_boxed-in-Bin.new.e c.in-Bin.is c.in-Bin.n-is (search rules) c.in_ok-left-in-Bin.ensures.0 c.in_ok-right-in-Bin.ensures.0
 
-pub expressions::walk_parts-returns-in_ok-right-in-Assign : goal.expressions::walk_parts-returns-in_ok-right-in-Assign
-expressions::walk_parts-returns-in_ok-right-in-Assign g t c = assign_arm c.walk_target-in-Assign.new.t c.walk_boxed-in-Assign.new.e c.in-Assign.is c.in-Assign.n-is (search rules) c.in_ok-target-in-Assign.ensures c.in_ok-right-in-Assign.ensures.0
+pub expressions::walk_parts-returns-in_ok-assign-in-Assign : goal.expressions::walk_parts-returns-in_ok-assign-in-Assign
+expressions::walk_parts-returns-in_ok-assign-in-Assign g t c = assign_arm c.walk_boxed_assign.new.n c.in-Assign.is c.in-Assign.n-is (search rules) c.in_ok-assign-in-Assign.ensures
+
+pub expressions::walk_assign-returns : goal.expressions::walk_assign-returns
+expressions::walk_assign-returns g t c = assign_made c.args.n.now c.walk_target.new.t c.walk_boxed.new.e c.in_ok-target.ensures c.in_ok-right.ensures.0
 
 pub expressions::walk_parts-returns-in_ok-member-in-Member : goal.expressions::walk_parts-returns-in_ok-member-in-Member
 expressions::walk_parts-returns-in_ok-member-in-Member g t c = member_arm c.walk_member.new.n c.in-Member.is c.in-Member.n-is (search rules) c.in_ok-member-in-Member.ensures
@@ -114,7 +120,7 @@ pub expressions::walk_parts-returns-in_ok-function-in-Fn : goal.expressions::wal
 expressions::walk_parts-returns-in_ok-function-in-Fn g t c = fn_arm c.walk_boxed_function.new.n c.in-Fn.is c.in-Fn.n-is (search rules) c.in_ok-function-in-Fn.ensures
 
 pub expressions::walk_parts-returns-in_ok-arrow-in-Arrow : goal.expressions::walk_parts-returns-in_ok-arrow-in-Arrow
-expressions::walk_parts-returns-in_ok-arrow-in-Arrow g t c = arrow_arm c.walk_arrow.new.n c.in-Arrow.is c.in-Arrow.n-is (search rules) c.in_ok-arrow-in-Arrow.ensures
+expressions::walk_parts-returns-in_ok-arrow-in-Arrow g t c = arrow_arm c.walk_boxed_arrow.new.n c.in-Arrow.is c.in-Arrow.n-is (search rules) c.in_ok-arrow-in-Arrow.ensures
 
 pub expressions::walk_option-returns-in_ok-made-in-Some : goal.expressions::walk_option-returns-in_ok-made-in-Some
 expressions::walk_option-returns-in_ok-made-in-Some g t c = option_some expr_tree _ c.in-Some.n c.walk_boxed.new.e _ c.in-Some.is c.in_ok-made-in-Some.ensures.0
@@ -224,8 +230,11 @@ statements::walk_stmt_parts-returns-in_ok-made-in-Switch g t c = switch_arm c.wa
 pub statements::walk_stmt_parts-returns-in_ok-made-in-Throw : goal.statements::walk_stmt_parts-returns-in_ok-made-in-Throw
 statements::walk_stmt_parts-returns-in_ok-made-in-Throw g t c = throw_arm c.walk_boxed.new.e c.in-Throw.is c.in-Throw.n-is (search rules) c.in_ok-made-in-Throw.ensures.0
 
-pub statements::walk_stmt_parts-returns-in_ok-finalizer-in-Try : goal.statements::walk_stmt_parts-returns-in_ok-finalizer-in-Try
-statements::walk_stmt_parts-returns-in_ok-finalizer-in-Try g t c = try_arm c.walk_inner_block.new.n c.walk_handler.new.h c.walk_finalizer.new.f c.in-Try.is c.in-Try.n-is (search rules) c.in_ok-block-in-Try.ensures c.in_ok-handler-in-Try.ensures c.in_ok-finalizer-in-Try.ensures
+pub statements::walk_stmt_parts-returns-in_ok-made-in-Try : goal.statements::walk_stmt_parts-returns-in_ok-made-in-Try
+statements::walk_stmt_parts-returns-in_ok-made-in-Try g t c = try_arm c.walk_boxed_try.new.n c.in-Try.is c.in-Try.n-is (search rules) c.in_ok-made-in-Try.ensures
+
+pub statements::walk_try-returns : goal.statements::walk_try-returns
+statements::walk_try-returns g t c = try_made c.args.n.now c.walk_inner_block.new.n c.walk_handler.new.h c.walk_finalizer.new.f c.in_ok-block.ensures c.in_ok-handler.ensures c.in_ok-finalizer.ensures
 
 pub statements::walk_stmt_parts-returns-in_ok-made-in-While : goal.statements::walk_stmt_parts-returns-in_ok-made-in-While
 statements::walk_stmt_parts-returns-in_ok-made-in-While g t c = while_arm c.walk_loop.new.n c.in-While.is c.in-While.n-is (search rules) c.in_ok-made-in-While.ensures
@@ -234,7 +243,7 @@ pub statements::walk_stmt_parts-returns-in_ok-made-in-DoWhile : goal.statements:
 statements::walk_stmt_parts-returns-in_ok-made-in-DoWhile g t c = do_while_arm c.walk_loop-in-DoWhile.new.n c.in-DoWhile.is c.in-DoWhile.n-is (search rules) c.in_ok-made-in-DoWhile.ensures
 
 pub statements::walk_stmt_parts-returns-in_ok-made-in-For : goal.statements::walk_stmt_parts-returns-in_ok-made-in-For
-statements::walk_stmt_parts-returns-in_ok-made-in-For g t c = for_arm c.walk_for.new.n c.in-For.is c.in-For.n-is (search rules) c.in_ok-made-in-For.ensures
+statements::walk_stmt_parts-returns-in_ok-made-in-For g t c = for_arm c.walk_boxed_for.new.n c.in-For.is c.in-For.n-is (search rules) c.in_ok-made-in-For.ensures
 
 pub statements::walk_stmt_parts-returns-in_ok-made-in-Decl : goal.statements::walk_stmt_parts-returns-in_ok-made-in-Decl
 statements::walk_stmt_parts-returns-in_ok-made-in-Decl g t c = decl_arm c.walk_decl.new.d c.in-Decl.is c.in-Decl.n-is (search rules) c.in_ok-made-in-Decl.ensures

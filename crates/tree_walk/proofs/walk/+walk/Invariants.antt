@@ -39,6 +39,18 @@ decreases-expressions::walk_items g l = 16 * goal.size-expressions::walk_items g
 abbrev pub decreases-expressions::walk_target : goal.decreases-expressions::walk_target
 decreases-expressions::walk_target g l = 16 * goal.size-expressions::walk_target g l + 5
 
+abbrev pub decreases-expressions::walk_update : goal.decreases-expressions::walk_update
+decreases-expressions::walk_update g l = 16 * goal.size-expressions::walk_update g l + 6
+
+abbrev pub decreases-expressions::walk_boxed_update : goal.decreases-expressions::walk_boxed_update
+decreases-expressions::walk_boxed_update g l = 16 * goal.size-expressions::walk_boxed_update g l + 7
+
+abbrev pub decreases-expressions::walk_assign : goal.decreases-expressions::walk_assign
+decreases-expressions::walk_assign g l = 16 * goal.size-expressions::walk_assign g l + 6
+
+abbrev pub decreases-expressions::walk_boxed_assign : goal.decreases-expressions::walk_boxed_assign
+decreases-expressions::walk_boxed_assign g l = 16 * goal.size-expressions::walk_boxed_assign g l + 7
+
 abbrev pub invariant-expressions::walk_exprs-loop-i : goal.invariant-expressions::walk_exprs-loop-i
 invariant-expressions::walk_exprs-loop-i g l = goal.unvisited-expressions::walk_exprs-loop-i g l × Each (λ x y d. Walks (g.R.Rules.pass l.rules) d (expr_tree x) (expr_tree y)) (take l.i l.initial.es.items) (take l.i l.es.items) l.changed
 
@@ -81,6 +93,9 @@ decreases-expressions::walk_default g l = 16 * goal.size-expressions::walk_defau
 abbrev pub decreases-expressions::walk_arrow : goal.decreases-expressions::walk_arrow
 decreases-expressions::walk_arrow g l = 16 * goal.size-expressions::walk_arrow g l
 
+abbrev pub decreases-expressions::walk_boxed_arrow : goal.decreases-expressions::walk_boxed_arrow
+decreases-expressions::walk_boxed_arrow g l = 16 * goal.size-expressions::walk_boxed_arrow g l + 1
+
 abbrev pub decreases-expressions::walk_arrow_body : goal.decreases-expressions::walk_arrow_body
 decreases-expressions::walk_arrow_body g l = 16 * goal.size-expressions::walk_arrow_body g l
 
@@ -120,6 +135,12 @@ decreases-statements::walk_handler g l = 16 * goal.size-statements::walk_handler
 abbrev pub decreases-statements::walk_finalizer : goal.decreases-statements::walk_finalizer
 decreases-statements::walk_finalizer g l = 16 * goal.size-statements::walk_finalizer g l + 7
 
+abbrev pub decreases-statements::walk_try : goal.decreases-statements::walk_try
+decreases-statements::walk_try g l = 16 * goal.size-statements::walk_try g l + 8
+
+abbrev pub decreases-statements::walk_boxed_try : goal.decreases-statements::walk_boxed_try
+decreases-statements::walk_boxed_try g l = 16 * goal.size-statements::walk_boxed_try g l + 9
+
 abbrev pub decreases-statements::walk_if : goal.decreases-statements::walk_if
 decreases-statements::walk_if g l = 16 * goal.size-statements::walk_if g l
 
@@ -137,6 +158,9 @@ decreases-statements::walk_loop g l = 16 * goal.size-statements::walk_loop g l
 
 abbrev pub decreases-statements::walk_for : goal.decreases-statements::walk_for
 decreases-statements::walk_for g l = 16 * goal.size-statements::walk_for g l
+
+abbrev pub decreases-statements::walk_boxed_for : goal.decreases-statements::walk_boxed_for
+decreases-statements::walk_boxed_for g l = 16 * goal.size-statements::walk_boxed_for g l + 1
 
 abbrev pub decreases-statements::walk_init : goal.decreases-statements::walk_init
 decreases-statements::walk_init g l = 16 * goal.size-statements::walk_init g l + 8
