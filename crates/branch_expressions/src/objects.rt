@@ -16,7 +16,7 @@ use crate::parts::add;
 use crate::rest::{Rest, as_one, changed};
 use std::alloc::{AllocError, Global};
 use std::mem;
-use swc_ast::{Expr, Ident, KeyValueProp, ObjectLit, Prop, PropName, PropOrSpread};
+use swc_ast::{Atom, Expr, Ident, KeyValueProp, ObjectLit, Prop, PropName, PropOrSpread};
 use swc_utils::{ExprCtx, ExprExt, has_spread_prop, is_literal};
 
 #[cycle(ignore)]
@@ -69,7 +69,7 @@ fn add_prop(
     match prop {
         PropOrSpread::Spread(_) => Ok(false),
         PropOrSpread::Prop(prop) => match prop {
-            Prop::Shorthand(n) => add_shorthand(alloc, ctx, n, out),
+            Prop::Shorthand(n) => add_shorthand(ctx, n, out),
             Prop::KeyValue(n) => {
                 let key = add_key(alloc, ctx, &mut n.key, out)?;
                 let value = add(alloc, ctx, Words::Go, &mut n.value, out)?;
@@ -81,15 +81,10 @@ fn add_prop(
 }
 
 /// Adds a name that stands for a property and its value, where the host may be asked about it.
-fn add_shorthand(
-    alloc: Global,
-    ctx: &ExprCtx,
-    n: &mut Ident,
-    out: &mut Vec<Expr>,
-) -> Result<bool, AllocError>
+fn add_shorthand(ctx: &ExprCtx, n: &mut Ident, out: &mut Vec<Expr>) -> Result<bool, AllocError>
     ensures { IfOk result (λ c. Adds (unresolved ctx.now) (property_parts (unresolved ctx.now) (shorthand_tree n.old)) out.old.items out.new.items c) }
 {
-    let sym = mem::replace(&mut n.sym, String::new(alloc));
+    let sym = mem::replace(&mut n.sym, Atom::new());
     let name = Expr::Ident(Ident {
         span: n.span,
         sym,

@@ -1,7 +1,5 @@
 -- The names that a module exports.
-use Rattle.std.specs.Prelude.{Bool, List, map, string_bytes}
-use Rattle.std.specs.declared.alloc.Global.{Global}
-use Rattle.std.specs.declared.string.String.{String}
+use Rattle.std.specs.Prelude.{Bool, List, map}
 use Rattle.swc_ast.specs.Parts.{ident_name}
 use Rattle.swc_ast.specs.Run.{item_exports, specifier_exports, exported}
 use Rattle.swc_ast.specs.Scope.{has_name}
@@ -12,11 +10,11 @@ use Rattle.swc_ast.specs.declared.names.SyntaxContext.{SyntaxContext}
 
 -- a name by itself, as values have it
 abbrev pub Id : Type 0
-Id = String Global × SyntaxContext
+Id = Text × SyntaxContext
 
 -- the name that it is
 abbrev pub id_name : Id → Name
-id_name i = record { text = string_bytes i.0; context = i.1.0 }
+id_name i = record { text = i.0; context = i.1.0 }
 
 -- the same of each
 abbrev pub ids : List Id → List Name

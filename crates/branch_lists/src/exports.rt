@@ -10,7 +10,9 @@ ghost use Rattle.branch_lists.specs.Swept.{trees};
 
 use std::alloc::{AllocError, Global};
 use stmt_like::StmtLike;
-use swc_ast::{Decl, ExportNamedSpecifier, Id, Ident, ModuleDecl, SyntaxContext, VarDeclarator};
+use swc_ast::{
+    Atom, Decl, ExportNamedSpecifier, Id, Ident, ModuleDecl, SyntaxContext, VarDeclarator,
+};
 
 fn add_name(names: &mut Vec<Id>, name: &Ident) -> Result<(), AllocError>
     ensures { OnOk result (ids names.new.items ≡ ids names.old.items ++ ident_name name.now ∷ []) }
@@ -23,7 +25,7 @@ fn add_name(names: &mut Vec<Id>, name: &Ident) -> Result<(), AllocError>
 fn add_default(alloc: Global, names: &mut Vec<Id>) -> Result<(), AllocError>
     ensures { OnOk result (ids names.new.items ≡ ids names.old.items ++ default_name ∷ []) }
 {
-    let sym = String::from_str(alloc, "*default*")?;
+    let sym = Atom::from_str(alloc, "*default*")?;
     names.push((sym, SyntaxContext::empty()))?;
     Ok(())
 }

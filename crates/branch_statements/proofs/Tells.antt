@@ -1,7 +1,7 @@
 -- What looks at statements tell.
 use Rattle.std.proofs.Common.{◌≡◌, ℕ, Bool, true, false, ◌==◌, List, [], ◌∷◌, length, Option, Some, None, refl, sym, ap, subst, ◌∙◌, arith}
 use Rattle.std.proofs.lemmas.Bool.{false≢true}
-use Rattle.std.specs.Prelude.{slice_index_or, string_eq}
+use Rattle.std.specs.Prelude.{slice_index_or, bytes_eq}
 use Rattle.std.specs.Cmp.{unsigned_Decides}
 use Rattle.std.specs.declared.alloc.Global.{Global}
 use Rattle.std.specs.declared.boxed.Box.{Box}
@@ -114,7 +114,7 @@ empty_cons a s o is at h = subst (λ p. LoneEmpty (stmt_tree a ⊳ optional_tree
 pub idle_empty : (l : IdentName) (s : Stmt) (n : EmptyStmt) → s ≡ in_stmt.Empty n → Idles (word_text l) (stmt_tree s)
 idle_empty l s n is = subst (Idles (word_text l)) (sym (ap stmt_tree is ∙ stmt_tree-Empty n)) (idle (n.span ∷ []))
 
-pub idle_break : (l m : IdentName) (s : Stmt) (n : BreakStmt) (b : Bool) → s ≡ in_stmt.Break n → n.label ≡ Some m → b ≡ string_eq l.sym m.sym → b ≡ true → Idles (word_text l) (stmt_tree s)
+pub idle_break : (l m : IdentName) (s : Stmt) (n : BreakStmt) (b : Bool) → s ≡ in_stmt.Break n → n.label ≡ Some m → b ≡ bytes_eq l.sym m.sym → b ≡ true → Idles (word_text l) (stmt_tree s)
 idle_break l m s n b is at e h =
     subst (Idles (word_text l)) (sym (ap stmt_tree is ∙ stmt_tree-Break n))
     (subst (λ o. Idles (word_text l) (node (tree.Break (option_word_text o)) (n.span ∷ option_word_spans o) ε)) (sym at) (leaves (word_text m) _ (sym e ∙ h)))

@@ -3,14 +3,12 @@ use Rattle.std.proofs.Common.{◌≡◌, ◌-◌, ◌≤◌, ◌<◌, Bool, true
 use Rattle.std.proofs.lemmas.List.{map-append, take_all}
 use Rattle.std.specs.Borrow.{Bor}
 use Rattle.std.specs.List.{list_any}
-use Rattle.std.specs.Prelude.{ℕ, string_bytes, map, Some}
+use Rattle.std.specs.Prelude.{ℕ, map, Some}
 use Rattle.std.specs.Cmp.{unsigned_Decides}
-use Rattle.std.specs.declared.alloc.Global.{Global}
-use Rattle.std.specs.declared.string.String.{String}
 use Rattle.swc_ast.specs.Parts.{ident_name, list_trees}
 use Rattle.swc_ast.specs.declared.names.Ident.{Ident}
 use Rattle.swc_ast.specs.declared.names.SyntaxContext.{SyntaxContext}
-use Rattle.swc_ast.specs.Tree.{Name, same_name, VarDecl as VarLabel, node, Forest, ε, ◌⊳◌}
+use Rattle.swc_ast.specs.Tree.{Text, Name, same_name, VarDecl as VarLabel, node, Forest, ε, ◌⊳◌}
 use Rattle.swc_ast.specs.Scope.{has_name, joined}
 use Rattle.swc_ast.specs.SameLaws.{impossible}
 use Rattle.swc_ast.specs.Statements.{declarator_tree}
@@ -30,10 +28,10 @@ use Rattle.branch_vars.specs.Names.{names_of, nowhere, statements, unset, unset_
 
 -- a name by itself
 abbrev pub Id : Type 0
-Id = String Global × SyntaxContext
+Id = Text × SyntaxContext
 
 abbrev pub id_name : Id → Name
-id_name i = record { text = string_bytes i.0; context = i.1.0 }
+id_name i = record { text = i.0; context = i.1.0 }
 
 abbrev pub ids : List Id → List Name
 ids = map id_name
@@ -42,7 +40,7 @@ abbrev pub same_id : Id → Id → Bool
 same_id a b = same_name (id_name a) (id_name b)
 
 -- the name of a value that was made of an identifier
-pub named : (i : Id) (n : Ident) → string_bytes i.0 ≡ string_bytes n.sym → i.1 ≡ n.ctxt → id_name i ≡ ident_name n
+pub named : (i : Id) (n : Ident) → i.0 ≡ n.sym → i.1 ≡ n.ctxt → id_name i ≡ ident_name n
 named i n e f = ap₂ (λ t c. let x : Name = record { text = t; context = c } in x) e (ap (λ c. c.0) f)
 
 has_id : (x : Name) (ks : List Id) → list_any (λ k. same_name x (id_name k)) ks ≡ has_name x (ids ks)

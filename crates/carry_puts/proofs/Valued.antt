@@ -29,7 +29,7 @@ use Rattle.carry_puts.specs.Values.{number}
 at_carry : (c d : Carry) (s : Span) (y : Name) → c ≡ d → put_tree y (put_of d) (s ∷ []) ≡ put_tree y (put_of c) (s ∷ [])
 at_carry c d s y is = ap (λ q. put_tree y (put_of q) (s ∷ [])) (sym is)
 
-pub name_made : (c : Carry) (s : Span) (n : Bor Ident) (t : String Global) (k : SyntaxContext) → c ≡ a.Name n → string_bytes t ≡ string_bytes n.now.sym → k ≡ n.now.ctxt → (y : Name) → expr_tree (in_expr.Ident (record { span = s; sym = t; ctxt = k })) ≡ put_tree y (put_of c) (s ∷ [])
+pub name_made : (c : Carry) (s : Span) (n : Bor Ident) (t : tree.Text) (k : SyntaxContext) → c ≡ a.Name n → t ≡ n.now.sym → k ≡ n.now.ctxt → (y : Name) → expr_tree (in_expr.Ident (record { span = s; sym = t; ctxt = k })) ≡ put_tree y (put_of c) (s ∷ [])
 name_made c s n t k is text context y = expr_tree-Ident (record { span = s; sym = t; ctxt = k }) ∙ ap₂ (λ x d. node (tree.Read (record { text = x; context = d })) (s ∷ []) ε) text (ap (λ d. d.0) context) ∙ at_carry c (a.Name n) s y is
 
 pub number_made : (c : Carry) (s : Span) (z v : ℤ) → c ≡ a.Num z → v ≡ z → (y : Name) → expr_tree (number s v) ≡ put_tree y (put_of c) (s ∷ [])

@@ -39,7 +39,7 @@ pub(crate) fn key_text(alloc: Global, key: &MemberProp) -> Result<Option<String>
     ensures { IfOk result (λ o. IfSome o (λ k. IsKey key.now (string_bytes k))) }
 {
     match key {
-        MemberProp::Ident(n) => Ok(Some(n.sym.clone()?)),
+        MemberProp::Ident(n) => Ok(Some(String::from_str(alloc, &n.sym)?)),
         MemberProp::Computed(n) => literal_text(alloc, &n.expr),
     }
 }

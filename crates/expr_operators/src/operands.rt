@@ -8,7 +8,9 @@ ghost use Rattle.swc_utils.specs.Sound.{numeric};
 ghost use Rattle.pass_rules.specs.Leaves as leaves;
 
 use std::alloc::{AllocError, Global};
-use swc_ast::{BinExpr, Bool, Expr, Ident, Lit, Number, PassError, SeqExpr, Span, Str, UnaryExpr};
+use swc_ast::{
+    Atom, BinExpr, Bool, Expr, Ident, Lit, Number, PassError, SeqExpr, Span, Str, UnaryExpr,
+};
 use swc_utils::{ExprCtx, preserve_effects};
 use tree_nodes::take;
 
@@ -36,7 +38,7 @@ pub(crate) fn number_expr(
     match number {
         Some(value) => Ok(Expr::Lit(Lit::Num(Number { span, value }))),
         None => {
-            let sym = String::from_str(alloc, "NaN")?;
+            let sym = Atom::from_str(alloc, "NaN")?;
             let ctxt = ctx.unresolved_ctxt;
             Ok(Expr::Ident(Ident { span, sym, ctxt }))
         }

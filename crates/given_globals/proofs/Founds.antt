@@ -51,9 +51,9 @@ module _ (s : Settings) where
 
   -- a name
 
-  pub name_found : (x : Ident) (o : Option ℕ) → o ≡ global_number s (string_bytes x.sym) → is_unresolved (mark_of s.mark) (ident_name x) ≡ true → by_value o ≡ by_name (given_of s) (mark_of s.mark) (ident_name x)
+  pub name_found : (x : Ident) (o : Option ℕ) → o ≡ global_number s x.sym → is_unresolved (mark_of s.mark) (ident_name x) ≡ true → by_value o ≡ by_name (given_of s) (mark_of s.mark) (ident_name x)
   unfolding given_of
-  name_found x o e u = ap by_value e ∙ sym (ap (λ b. if b then by_value (global_number s (string_bytes x.sym)) else nothing) u)
+  name_found x o e u = ap by_value e ∙ sym (ap (λ b. if b then by_value (global_number s x.sym) else nothing) u)
 
   -- a member
 
@@ -96,11 +96,11 @@ module _ (s : Settings) where
 
   pub type_bound : (x : Ident) → is_unresolved (mark_of s.mark) (ident_name x) ≡ false → None ≡ (answers_of s).text (ident_name x)
   unfolding answers_of
-  type_bound x u = sym (ap (λ b. if b then (given_of s).type_text (string_bytes x.sym) else None) u)
+  type_bound x u = sym (ap (λ b. if b then (given_of s).type_text x.sym else None) u)
 
-  pub type_found : (x : Ident) → is_unresolved (mark_of s.mark) (ident_name x) ≡ true → option_map string_bytes (get_by_text s.typeofs.now (string_bytes x.sym)) ≡ (answers_of s).text (ident_name x)
+  pub type_found : (x : Ident) → is_unresolved (mark_of s.mark) (ident_name x) ≡ true → option_map string_bytes (get_by_text s.typeofs.now x.sym) ≡ (answers_of s).text (ident_name x)
   unfolding answers_of given_of
-  type_found x u = sym (ap (λ b. if b then option_map string_bytes (get_by_text s.typeofs.now (string_bytes x.sym)) else None) u)
+  type_found x u = sym (ap (λ b. if b then option_map string_bytes (get_by_text s.typeofs.now x.sym) else None) u)
 
   -- whether an object is `process.env`
 
@@ -114,7 +114,7 @@ module _ (s : Settings) where
   dot_other k ss (node l rs cs) e = refl
 
   pub env_no_name : (t : Tree) (m : Span) (o : Expr) (k : IdentName) → t ≡ member_node expr_tree m o (prop.Ident k) → is_name (expr_tree o) ≡ false → false ≡ is_env (given_of s) (mark_of s.mark) t
-  env_no_name t m o k e n = dot_other (string_bytes k.sym) (m ∷ k.span ∷ []) (expr_tree o) n ∙ ap (is_env (given_of s) (mark_of s.mark)) (sym e)
+  env_no_name t m o k e n = dot_other k.sym (m ∷ k.span ∷ []) (expr_tree o) n ∙ ap (is_env (given_of s) (mark_of s.mark)) (sym e)
 
   pub is_none_nothing : (o : Option ℕ) → is_none o ≡ is_nothing (by_value o)
   is_none_nothing None = refl
@@ -122,13 +122,13 @@ module _ (s : Settings) where
 
   -- by what is found for it and in it
   pub env_dot : (t : Tree) (m : Span) (o : Expr) (k : IdentName) (x : Ident) → t ≡ member_node expr_tree m o (prop.Ident k) → expr_tree o ≡ ident_tree x
-      → (is_unresolved (mark_of s.mark) (ident_name x) && (bytes_eq (string_bytes x.sym) (codes "process") && (bytes_eq (string_bytes k.sym) (codes "env") && (is_nothing (by_expression (given_of s) (mark_of s.mark) t) && (is_nothing (by_expression (given_of s) (mark_of s.mark) (expr_tree o)) && is_nothing (by_name (given_of s) (mark_of s.mark) (ident_name x))))))) ≡ is_env (given_of s) (mark_of s.mark) t
+      → (is_unresolved (mark_of s.mark) (ident_name x) && (bytes_eq x.sym (codes "process") && (bytes_eq k.sym (codes "env") && (is_nothing (by_expression (given_of s) (mark_of s.mark) t) && (is_nothing (by_expression (given_of s) (mark_of s.mark) (expr_tree o)) && is_nothing (by_name (given_of s) (mark_of s.mark) (ident_name x))))))) ≡ is_env (given_of s) (mark_of s.mark) t
   env_dot t m o k x e f =
-      ap₂ (λ u v. is_unresolved (mark_of s.mark) (ident_name x) && (bytes_eq (string_bytes x.sym) (codes "process") && (bytes_eq (string_bytes k.sym) (codes "env") && (is_nothing (by_expression (given_of s) (mark_of s.mark) u) && (is_nothing (by_expression (given_of s) (mark_of s.mark) v) && is_nothing (by_name (given_of s) (mark_of s.mark) (ident_name x))))))) shape_of f
+      ap₂ (λ u v. is_unresolved (mark_of s.mark) (ident_name x) && (bytes_eq x.sym (codes "process") && (bytes_eq k.sym (codes "env") && (is_nothing (by_expression (given_of s) (mark_of s.mark) u) && (is_nothing (by_expression (given_of s) (mark_of s.mark) v) && is_nothing (by_name (given_of s) (mark_of s.mark) (ident_name x))))))) shape_of f
       ∙ ap (is_env (given_of s) (mark_of s.mark)) (sym shape_of)
     where
-      shape_of : t ≡ node (Dot (string_bytes k.sym)) (m ∷ k.span ∷ []) (ident_tree x ⊳ ε)
-      shape_of = e ∙ ap (λ u. node (Dot (string_bytes k.sym)) (m ∷ k.span ∷ []) (u ⊳ ε)) f
+      shape_of : t ≡ node (Dot k.sym) (m ∷ k.span ∷ []) (ident_tree x ⊳ ε)
+      shape_of = e ∙ ap (λ u. node (Dot k.sym) (m ∷ k.span ∷ []) (u ⊳ ε)) f
 
 -- a conjunction, part by part
 

@@ -1,5 +1,5 @@
 -- What the names, keys and answers of the program stand for.
-use Rattle.std.specs.Prelude.{Bool, true, false, List, map, string_bytes, Option, Some, None}
+use Rattle.std.specs.Prelude.{Bool, true, false, List, map, Option, Some, None}
 use Rattle.std.specs.Borrow.{Bor}
 use Rattle.std.specs.BTreeMap.{BTreeMap}
 use Rattle.std.specs.declared.alloc.Global.{Global}
@@ -35,7 +35,7 @@ key_of_tree (node (StrLit k) ss cs) = Some k
 key_of_tree t = None
 
 abbrev pub written_key : MemberProp Expr → Option Text
-written_key (prop.Ident n) = Some (string_bytes n.sym)
+written_key (prop.Ident n) = Some n.sym
 written_key (prop.Computed n) = key_of_tree (expr_tree n.expr.value)
 
 -- a name or a member

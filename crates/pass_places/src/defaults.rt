@@ -8,7 +8,7 @@ ghost use Rattle.pass_places.specs.Dropped.{MayDrop, has_void_default};
 
 use std::alloc::{AllocError, Global};
 use std::mem;
-use swc_ast::{Expr, Ident, Pat, SyntaxContext, UnaryOp};
+use swc_ast::{Atom, Expr, Ident, Pat, SyntaxContext, UnaryOp};
 use swc_utils::{ExprCtx, ExprExt};
 
 /// Whether an expression is `undefined`, or `void` of what has no effect.
@@ -27,7 +27,7 @@ fn is_void(ctx: &ExprCtx, e: &Expr) -> bool
 
 /// Drops the default of a parameter where it is `undefined`, or `void` of an expression without effects: without one a
 /// parameter is undefined too (ECMA-262, 8.6.3). Answers whether it did; where it didn't the parameter is as it was.
-pub fn drop_default(alloc: Global, ctx: &ExprCtx, p: &mut Pat) -> bool
+pub fn drop_default(ctx: &ExprCtx, p: &mut Pat) -> bool
     ensures step { MayDrop (unresolved ctx.now) result (param_tree expr_tree p.old) (param_tree expr_tree p.new) }
     ensures goes { result ≡ has_void_default (unresolved ctx.now) (param_tree expr_tree p.old) }
 {
@@ -39,7 +39,7 @@ pub fn drop_default(alloc: Global, ctx: &ExprCtx, p: &mut Pat) -> bool
             }
             let nameless = Ident {
                 span: n.span,
-                sym: String::new(alloc),
+                sym: Atom::new(),
                 ctxt: SyntaxContext::empty(),
             };
             let name = mem::replace(&mut n.left, nameless);

@@ -84,7 +84,7 @@ impl Rules for BranchRules {
         ensures step { IfOk result (λ changed. Stepped (remove_pass (unresolved self.now.ctx)) changed (param_tree expr_tree p.old) (param_tree expr_tree p.new)) }
         ensures goes { IfOk result (λ changed. changed ≡ has_void_default (unresolved self.now.ctx) (param_tree expr_tree p.old)) }
     {
-        Ok(drop_default(self.alloc, &self.ctx, p))
+        Ok(drop_default(&self.ctx, p))
     }
 
     fn leave_stmt(&self, s: &mut Stmt) -> Result<bool, AllocError> {

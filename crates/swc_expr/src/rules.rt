@@ -135,7 +135,7 @@ impl Rules for ExprRules {
         ensures step { IfOk result (λ changed. Stepped (simplify_pass (unresolved self.now.ctx)) changed (param_tree expr_tree p.old) (param_tree expr_tree p.new)) }
         ensures goes { IfOk result (λ changed. changed ≡ has_void_default (unresolved self.now.ctx) (param_tree expr_tree p.old)) }
     {
-        Ok(drop_default(self.alloc, &self.ctx, p))
+        Ok(drop_default(&self.ctx, p))
     }
 
     fn leave_stmt(&self, _s: &mut Stmt) -> Result<bool, AllocError> {

@@ -48,10 +48,10 @@ no_span e no_array no_object = sym (by_form (out-Expr e) (roll-out-Expr e))
     by_form (Open.Object n) is = absurd (no_object n (sym is ∙ in_expr.rolls-Object n))
     by_form o is = spanless (expr_tree e) (ap (λ x. is_list_form (expr_form (label_of (expr_tree x)))) (sym is) ∙ ap is_list_form (expr_at o))
 
-named : (sym_text : String Global) (ctxt : SyntaxContext) (json : Expr) → string_bytes sym_text ≡ codes "JSON" → ctxt.0 ≡ 0 → json ≡ in_expr.Ident (record { span = nowhere; sym = sym_text; ctxt = ctxt }) → expr_tree json ≡ node (tree.Read json_name) (nowhere ∷ []) ε
+named : (sym_text : tree.Text) (ctxt : SyntaxContext) (json : Expr) → sym_text ≡ codes "JSON" → ctxt.0 ≡ 0 → json ≡ in_expr.Ident (record { span = nowhere; sym = sym_text; ctxt = ctxt }) → expr_tree json ≡ node (tree.Read json_name) (nowhere ∷ []) ε
 named t c json text context is = ap expr_tree is ∙ expr_tree-Ident (record { span = nowhere; sym = t; ctxt = c }) ∙ ap₂ (λ x k. node (tree.Read (record { text = x; context = k })) (nowhere ∷ []) ε) text context
 
-member : (word : String Global) (json : Box Expr Global) (callee : Expr) → string_bytes word ≡ codes "parse" → callee ≡ in_expr.Member (record { span = nowhere; obj = json; prop = prop.Ident (record { span = nowhere; sym = word }) }) → expr_tree json.value ≡ node (tree.Read json_name) (nowhere ∷ []) ε
+member : (word : tree.Text) (json : Box Expr Global) (callee : Expr) → word ≡ codes "parse" → callee ≡ in_expr.Member (record { span = nowhere; obj = json; prop = prop.Ident (record { span = nowhere; sym = word }) }) → expr_tree json.value ≡ node (tree.Read json_name) (nowhere ∷ []) ε
     → expr_tree callee ≡ node (tree.Dot (codes "parse")) (nowhere ∷ nowhere ∷ []) (node (tree.Read json_name) (nowhere ∷ []) ε ⊳ ε)
 member w json callee text is object = ap expr_tree is ∙ expr_tree-Member (record { span = nowhere; obj = json; prop = prop.Ident (record { span = nowhere; sym = w }) }) ∙ ap₂ (λ k o. node (tree.Dot k) (nowhere ∷ nowhere ∷ []) (o ⊳ ε)) text object
 
@@ -59,7 +59,7 @@ argument : (text : String Global) (args : List Expr) → args ≡ in_expr.Lit (l
 argument t args is = ap (list_trees expr_tree) is ∙ ap (λ a. a ⊳ ε) (expr_tree-Lit (lit.Str (record { span = nowhere; value = t })))
 
 -- the call
-pub call_made : (s : Span) (text name word : String Global) (ctxt : SyntaxContext) (json callee : Box Expr Global) (args : Vec Expr Global) → string_bytes name ≡ codes "JSON" → string_bytes word ≡ codes "parse" → ctxt.0 ≡ 0
+pub call_made : (s : Span) (text : String Global) (name word : tree.Text) (ctxt : SyntaxContext) (json callee : Box Expr Global) (args : Vec Expr Global) → name ≡ codes "JSON" → word ≡ codes "parse" → ctxt.0 ≡ 0
     → json.value ≡ in_expr.Ident (record { span = nowhere; sym = name; ctxt = ctxt }) → callee.value ≡ in_expr.Member (record { span = nowhere; obj = json; prop = prop.Ident (record { span = nowhere; sym = word }) })
     → args.items ≡ in_expr.Lit (lit.Str (record { span = nowhere; value = text })) ∷ [] → expr_tree (in_expr.Call (record { span = s; callee = callee; args = args })) ≡ parse_call s (string_bytes text)
 unfolding call_node

@@ -5,7 +5,7 @@ ghost use Rattle.swc_json_parse.specs.Parsing.{parse_call as parse_call_tree, li
 
 use std::alloc::{AllocError, Global};
 use swc_ast::{
-    CallExpr, DUMMY_SP, Expr, Ident, IdentName, Lit, MemberExpr, MemberProp, Span, Str,
+    Atom, CallExpr, DUMMY_SP, Expr, Ident, IdentName, Lit, MemberExpr, MemberProp, Span, Str,
     SyntaxContext,
 };
 
@@ -26,12 +26,12 @@ pub(crate) fn parse_call(alloc: Global, span: Span, text: String) -> Result<Expr
 {
     let json = Expr::Ident(Ident {
         span: DUMMY_SP,
-        sym: String::from_str(alloc, "JSON")?,
+        sym: Atom::from_str(alloc, "JSON")?,
         ctxt: SyntaxContext::empty(),
     });
     let parse = IdentName {
         span: DUMMY_SP,
-        sym: String::from_str(alloc, "parse")?,
+        sym: Atom::from_str(alloc, "parse")?,
     };
     let callee = Expr::Member(MemberExpr {
         span: DUMMY_SP,

@@ -3,7 +3,7 @@ use Rattle.std.proofs.Common.{◌≡◌, ◌-◌, ◌≤◌, Bool, true, false, 
 use Rattle.std.proofs.lemmas.List.{map-append, take_all}
 use Rattle.std.specs.Borrow.{Bor}
 use Rattle.std.specs.List.{list_any}
-use Rattle.std.specs.Prelude.{fold, string_bytes}
+use Rattle.std.specs.Prelude.{fold}
 use Rattle.swc_ast.specs.Parts.{ident_name}
 use Rattle.swc_ast.specs.declared.names.Ident.{Ident}
 use Rattle.swc_ast.specs.Tree.{Name, same_name}
@@ -28,7 +28,7 @@ inserted ks k = by (list_any (same_id k) ks) refl
     by false is = ap (λ b. ids (if b then ks else ks ++ k ∷ [])) is ∙ map-append id_name ks (k ∷ []) ∙ ap (λ b. if b then ids ks else ids ks ++ id_name k ∷ []) (sym (sym (has_id (id_name k) ks) ∙ is))
 
 -- the name of a value that was made of an identifier
-pub named : (i : Id) (n : Ident) → string_bytes i.0 ≡ string_bytes n.sym → i.1 ≡ n.ctxt → id_name i ≡ ident_name n
+pub named : (i : Id) (n : Ident) → i.0 ≡ n.sym → i.1 ≡ n.ctxt → id_name i ≡ ident_name n
 named i n e f = ap₂ (λ t c. let x : Name = record { text = t; context = c } in x) e (ap (λ c. c.0) f)
 
 -- the first of the identifiers that are left, and those behind it

@@ -3,7 +3,6 @@ use Rattle.std.proofs.Common.{◌≡◌, Bool, true, false, ◌||◌, List, [], 
 use Rattle.std.proofs.lemmas.Map.Lookups.{exact_bytes, exact_unsigned}
 use Rattle.std.proofs.lemmas.Bool.{false≢true}
 use Rattle.std.specs.Borrow.{Bor}
-use Rattle.std.specs.Prelude.{string_bytes}
 use Rattle.std.specs.Cmp.Lexicographic.{slice_cmp}
 use Rattle.swc_ast.specs.Parts.{ident_name}
 use Rattle.swc_ast.specs.declared.names.Ident.{Ident}
@@ -42,7 +41,7 @@ put cmp exact x (i ∷ is) k = by (cmp k i) refl (put cmp exact x is k)
 
 -- values in the order of their texts, and of their contexts beside one text
 abbrev pub id_cmp : Id → Id → Ordering
-id_cmp i j = ordering_then (slice_cmp nat_cmp (string_bytes i.0) (string_bytes j.0)) (nat_cmp i.1.0 j.1.0)
+id_cmp i j = ordering_then (slice_cmp nat_cmp i.0 j.0) (nat_cmp i.1.0 j.1.0)
 
 both : (p q : Ordering) → ordering_then p q ≡ Equal → (p ≡ Equal) × (q ≡ Equal)
 both Less q h = absurd (false≢true (ap (λ o. match_ordering o false true false) h))
@@ -51,8 +50,8 @@ both Greater q h = absurd (false≢true (ap (λ o. match_ordering o false true f
 
 exact : (i j : Id) → id_cmp i j ≡ Equal → id_name i ≡ id_name j
 exact i j h =
-    let p = both (slice_cmp nat_cmp (string_bytes i.0) (string_bytes j.0)) (nat_cmp i.1.0 j.1.0) h in
-    ap₂ (λ t c. let x : Name = record { text = t; context = c } in x) (exact_bytes (string_bytes i.0) (string_bytes j.0) p.0) (exact_unsigned i.1.0 j.1.0 p.1)
+    let p = both (slice_cmp nat_cmp i.0 j.0) (nat_cmp i.1.0 j.1.0) h in
+    ap₂ (λ t c. let x : Name = record { text = t; context = c } in x) (exact_bytes i.0 j.0 p.0) (exact_unsigned i.1.0 j.1.0 p.1)
 
 -- a step of the loop
 pub kept : (x : Name) (left rest : List (Bor Ident)) (n : Bor Ident) (i : Id) (ks ns : List Id) (g : Bool) → left ≡ n ∷ rest → id_name i ≡ ident_name n.now → ns ≡ insert_key id_cmp ks i → (has_name x (ids ks) || has_name x (idents left)) ≡ g → (has_name x (ids ns) || has_name x (idents rest)) ≡ g

@@ -1,9 +1,7 @@
 -- The names that identifiers stand for.
-use Rattle.std.specs.Prelude.{List, [], ◌∷◌, map, string_bytes, Option, Some, None}
+use Rattle.std.specs.Prelude.{List, [], ◌∷◌, map, Option, Some, None}
 use Rattle.std.specs.Borrow.{Bor}
-use Rattle.std.specs.declared.alloc.Global.{Global}
-use Rattle.std.specs.declared.string.String.{String}
-use Rattle.swc_ast.specs.Tree.{Name}
+use Rattle.swc_ast.specs.Tree.{Name, Text}
 use Rattle.swc_ast.specs.Parts.{ident_name}
 use Rattle.swc_ast.specs.declared.names.Ident.{Ident}
 use Rattle.swc_ast.specs.declared.names.SyntaxContext.{SyntaxContext}
@@ -11,11 +9,11 @@ use Rattle.swc_names.specs.declared.keys.Key.{Key}
 
 -- a name by itself, as values have it
 abbrev pub Id : Type 0
-Id = String Global × SyntaxContext
+Id = Text × SyntaxContext
 
 -- the name that it is
 abbrev pub id_name : Id → Name
-id_name i = record { text = string_bytes i.0; context = i.1.0 }
+id_name i = record { text = i.0; context = i.1.0 }
 
 -- the same of each
 abbrev pub ids : List Id → List Name

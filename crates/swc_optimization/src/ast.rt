@@ -1,7 +1,7 @@
 //! The syntax tree, whether a tree is resolved and in the core, and what it weighs.
 pub use core_trees::{is_core, is_script_core};
 pub use swc_ast::{
-    ArrayLit, ArrowExpr, AssignExpr, AssignOp, AssignPat, AssignTarget, BinExpr, BinaryOp,
+    ArrayLit, ArrowExpr, AssignExpr, AssignOp, AssignPat, AssignTarget, Atom, BinExpr, BinaryOp,
     BlockStmt, BlockStmtOrExpr, Bool, BreakStmt, CallExpr, CatchClause, Compare, ComputedPropName,
     CondExpr, ContinueStmt, DUMMY_SP, Decl, DoWhileStmt, EmptyStmt, EqIgnoreSpan, ExportDecl,
     ExportDefaultDecl, ExportDefaultExpr, ExportNamedSpecifier, Expr, ExprOrSpread, ExprStmt,

@@ -19,7 +19,7 @@ pub fn print(alloc: Global, m: &Module) -> Result<String, PrintError>
     ensures refused { IfErr result (Refuses (module_tree m.now)) }
 {
     if let Some(fault) = first_fault(alloc, m)? {
-        return Err(refusal(fault));
+        return Err(refusal(alloc, fault));
     }
     Ok(text_printer::print(alloc, m)?)
 }
@@ -32,17 +32,17 @@ pub fn print_script(alloc: Global, s: &Script) -> Result<String, PrintError>
     ensures refused { IfErr result (Refuses (script_tree s.now)) }
 {
     if let Some(fault) = first_fault_of_script(alloc, s)? {
-        return Err(refusal(fault));
+        return Err(refusal(alloc, fault));
     }
     Ok(text_printer::print_script(alloc, s)?)
 }
 
 /// What is told of a fault.
-fn refusal(fault: Fault<'_>) -> PrintError
+fn refusal(alloc: Global, fault: Fault<'_>) -> PrintError
     ensures { Says fault.entry result }
 {
     match fault {
-        Fault::Captured(name) => match name.sym.clone() {
+        Fault::Captured(name) => match String::from_str(alloc, &name.sym) {
             Ok(name) => PrintError::Captured { name },
             Err(_) => PrintError::OutOfMemory,
         },

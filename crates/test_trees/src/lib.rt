@@ -3,8 +3,8 @@
 
 use std::alloc::{AllocError, Global};
 use swc_ast::{
-    AssignPat, BlockStmt, Decl, Expr, ExprStmt, FnDecl, Function, Ident, IdentName, Lit, Mark,
-    Module, ModuleItem, Number, Pat, Span, Stmt, SyntaxContext, VarDecl, VarDeclKind,
+    AssignPat, Atom, BlockStmt, Decl, Expr, ExprStmt, FnDecl, Function, Ident, IdentName, Lit,
+    Mark, Module, ModuleItem, Number, Pat, Span, Stmt, SyntaxContext, VarDecl, VarDeclKind,
     VarDeclarator,
 };
 
@@ -19,7 +19,7 @@ pub fn number(value: i64) -> Expr {
 
 /// A name under the mark of a number; 0 stands for the empty context.
 pub fn ident(alloc: Global, text: &str, mark: u32) -> Result<Ident, AllocError> {
-    let sym = String::from_str(alloc, text)?;
+    let sym = Atom::from_str(alloc, text)?;
     let ctxt = match Mark::new(mark) {
         Some(mark) => SyntaxContext::empty().apply_mark(mark),
         None => SyntaxContext::empty(),
@@ -32,7 +32,7 @@ pub fn ident(alloc: Global, text: &str, mark: u32) -> Result<Ident, AllocError> 
 }
 
 pub fn word(alloc: Global, text: &str) -> Result<IdentName, AllocError> {
-    let sym = String::from_str(alloc, text)?;
+    let sym = Atom::from_str(alloc, text)?;
     let span = span();
     Ok(IdentName { span, sym })
 }

@@ -1,6 +1,6 @@
 //! Names: where they are read, bound and written.
 use crate::cursor::{Nested, Parser};
-use swc_ast::{AssignTarget, Expr, Ident, IdentName, SyntaxContext, VarDeclKind};
+use swc_ast::{AssignTarget, Atom, Expr, Ident, IdentName, SyntaxContext, VarDeclKind};
 use text_lexer::{Construct, Fault, Kind, Token, is_word_part};
 
 /// Whether no binding and no write may have this name in strict code.
@@ -42,7 +42,7 @@ impl<'a> Parser<'a> {
         let ctxt = self.scopes.mention(text)?;
         Ok(Ident {
             span: self.span_from(token.start),
-            sym: String::from_str(self.alloc, text)?,
+            sym: Atom::from_str(self.alloc, text)?,
             ctxt,
         })
     }
@@ -81,7 +81,7 @@ impl<'a> Parser<'a> {
         self.bump();
         Ok(IdentName {
             span: self.span_from(token.start),
-            sym: String::from_str(self.alloc, self.text_of(token))?,
+            sym: Atom::from_str(self.alloc, self.text_of(token))?,
         })
     }
 

@@ -38,7 +38,8 @@ pub fn named(alloc: Global, text: &str, mark: Mark, is_script: bool) -> anyhow::
 fn push_name(alloc: Global, told: &mut String, id: &Id) -> anyhow::Result<()> {
     let context = format!(in alloc; "{:?}", id.1)?;
     let context = context.as_str().strip_prefix("SyntaxContext").unwrap_or("");
-    write!(told, " {}{context}", id.0)?;
+    let text = id.0.as_str();
+    write!(told, " {text}{context}")?;
     Ok(())
 }
 

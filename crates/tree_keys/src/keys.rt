@@ -39,7 +39,7 @@ fn key_text(alloc: Global, key: &PropName) -> Result<Option<String>, AllocError>
     ensures { IfOk result (λ o. option_map string_bytes o ≡ plain_key key.now) }
 {
     match key {
-        PropName::Ident(n) => Ok(Some(n.sym.clone()?)),
+        PropName::Ident(n) => Ok(Some(String::from_str(alloc, &n.sym)?)),
         PropName::Str(n) => Ok(Some(n.value.clone()?)),
         PropName::Num(n) => Ok(Some(n.value.to_string(alloc)?)),
         PropName::Computed(_) => Ok(None),

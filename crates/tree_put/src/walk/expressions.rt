@@ -10,7 +10,7 @@ use crate::walk::statements::put_body;
 use std::alloc::{AllocError, Global};
 use std::mem;
 use swc_ast::{
-    ArrowExpr, AssignExpr, AssignTarget, BlockStmtOrExpr, Expr, ExprOrSpread, Function, Ident,
+    ArrowExpr, AssignExpr, AssignTarget, Atom, BlockStmtOrExpr, Expr, ExprOrSpread, Function, Ident,
     IdentName, KeyValueProp, MemberExpr, MemberProp, MethodProp, Pat, Prop, PropName, PropOrSpread,
     UnaryExpr, UnaryOp, UpdateExpr,
 };
@@ -377,7 +377,7 @@ fn put_shorthand<P: Puts>(
         Put::Enter => Ok(None),
         Put::Stay => Ok(None),
         Put::Become(value) => {
-            let sym = mem::replace(&mut n.sym, String::new(alloc));
+            let sym = mem::replace(&mut n.sym, Atom::new());
             let key = PropName::Ident(IdentName { span: n.span, sym });
             let value = Box::new(alloc, value)?;
             Ok(Some(Prop::KeyValue(KeyValueProp { key, value })))
