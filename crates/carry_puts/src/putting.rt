@@ -92,6 +92,7 @@ impl<'r, 'a> Puts for Putting<'r, 'a> {
 
     ghost state = { state_of };
 
+    #[inline(never)]
     fn expression(&mut self, spot: Spot, e: &Expr) -> Result<Put, AllocError> {
         match name_of(e) {
             Some(n) => {

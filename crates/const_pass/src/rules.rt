@@ -129,6 +129,7 @@ impl<'a> Puts for Constants<'a> {
 
     ghost state = { rules.state };
 
+    #[inline(never)]
     #[tactic(auto, using(crate::proofs::Found::answers_walk))]
     fn expression(&mut self, spot: Spot, e: &Expr) -> Result<Put, AllocError> {
         let put = self.put(spot, self.value(e))?;

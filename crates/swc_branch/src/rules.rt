@@ -31,6 +31,7 @@ pub struct BranchRules {
 
 impl BranchRules {
     /// A loop whose children are walked: each `do` in its body, and then its own rules; those of a `for` in one visit.
+    #[inline(never)]
     fn leave_loop(&self, s: &mut Stmt) -> Result<bool, AllocError>
         requires { is_list (label_of (stmt_tree s.old)) ≡ false }
         ensures { IfOk result (λ changed. Became (remove_pass (unresolved self.now.ctx)) changed (stmt_tree s.old) (stmt_tree s.new)) }
@@ -56,6 +57,7 @@ impl Rules for BranchRules {
         !is_delete(e)
     }
 
+    #[inline(never)]
     fn leave_expr(&self, place: Place, e: &mut Expr) -> Result<bool, AllocError> {
         if !is_ruled(e) {
             return Ok(false);

@@ -113,6 +113,7 @@ impl Rules for ExprRules {
         !is_delete(e)
     }
 
+    #[inline(never)]
     fn leave_expr(&self, place: Place, e: &mut Expr) -> Result<bool, AllocError> {
         if !is_ruled(e) {
             return Ok(false);

@@ -75,6 +75,7 @@ impl Puts for Literals {
 
     ghost state = { λ p. p.min_cost };
 
+    #[inline(never)]
     fn expression(&mut self, _spot: Spot, e: &Expr) -> Result<Put, AllocError> {
         self.answer(e)
     }

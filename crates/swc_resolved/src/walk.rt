@@ -1,7 +1,9 @@
 //! One walk over a tree: what its scopes bind, whether jumps have targets and parameters stand apart, and what the core asks of
 //! each node where it is asked for.
 ghost use Rattle.std.specs.Prelude.{◌≡◌, IfOk};
-ghost use Rattle.swc_ast.specs.Resolved.{below, own_scopes, scopes, scopes_all};
+ghost use Rattle.swc_ast.specs.Resolved.{below, in_loop, own_scopes, scopes, scopes_all};
+ghost use Rattle.swc_ast.specs.Parts.{word_text};
+ghost use Rattle.swc_ast.specs.Tree.{Labeled};
 ghost use Rattle.tree_visit.specs.Kinds.{kind_label};
 ghost use Rattle.tree_visit.specs.Nodes.{node_tree, children_forest};
 ghost use Rattle.swc_resolved.specs.Jumps.{targets};
@@ -15,6 +17,7 @@ use crate::leaves::is_leaf_fit;
 use crate::names::Taken;
 use crate::scopes::Bound;
 use std::alloc::{AllocError, Global};
+use swc_ast::IdentName;
 use swc_debug::{has_good_names, has_good_shape};
 use tree_leaves::leaf_of;
 use tree_visit::{Children, Kind, Node};
@@ -175,26 +178,9 @@ impl<'a> Taken<'a> {
         ensures { IfOk result (λ b. Passes b (good_all core_too (below (kind_label kind.entry) (targets g.now)) (children_forest children.entry)) (is_taken self.old) (is_taken self.new) (λ x. scopes_all x (children_forest children.entry))) }
     {
         match kind {
-            Kind::Labeled(name) => {
-                let labels = joined(&[&*name.sym], g.labels, alloc)?;
-                let own = joined(&[&*name.sym], g.own, alloc)?;
-                let inner = Targets {
-                    labels: &labels,
-                    own: &own,
-                    ..*g
-                };
-                self.walk_all(children, core_too, &inner, alloc)
-            }
+            Kind::Labeled(name) => self.walk_labeled(name, children, core_too, g, alloc),
             Kind::While | Kind::DoWhile | Kind::For => {
-                let loops = joined(g.own, g.loops, alloc)?;
-                let inner = Targets {
-                    labels: g.labels,
-                    loops: &loops,
-                    can_break: true,
-                    can_continue: true,
-                    own: &[],
-                };
-                self.walk_all(children, core_too, &inner, alloc)
+                self.walk_loop(children, core_too, g, alloc)
             }
             Kind::Switch(_) => {
                 let inner = Targets {
@@ -211,6 +197,52 @@ impl<'a> Taken<'a> {
                 self.walk_all(children, core_too, &inner, alloc)
             }
         }
+    }
+
+    /// The same of a statement with a label.
+    #[inline(never)]
+    #[cycle(walk)]
+    fn walk_labeled(
+        &mut self,
+        label: &IdentName,
+        children: Children<'a>,
+        core_too: bool,
+        g: &Targets<'_>,
+        alloc: Global,
+    ) -> Result<bool, AllocError>
+        ensures { IfOk result (λ b. Passes b (good_all core_too (below (Labeled (word_text label.now)) (targets g.now)) (children_forest children.entry)) (is_taken self.old) (is_taken self.new) (λ x. scopes_all x (children_forest children.entry))) }
+    {
+        let labels = joined(&[&*label.sym], g.labels, alloc)?;
+        let own = joined(&[&*label.sym], g.own, alloc)?;
+        let inner = Targets {
+            labels: &labels,
+            own: &own,
+            ..*g
+        };
+        self.walk_all(children, core_too, &inner, alloc)
+    }
+
+    /// The same of a loop.
+    #[inline(never)]
+    #[cycle(walk)]
+    fn walk_loop(
+        &mut self,
+        children: Children<'a>,
+        core_too: bool,
+        g: &Targets<'_>,
+        alloc: Global,
+    ) -> Result<bool, AllocError>
+        ensures { IfOk result (λ b. Passes b (good_all core_too (in_loop (targets g.now)) (children_forest children.entry)) (is_taken self.old) (is_taken self.new) (λ x. scopes_all x (children_forest children.entry))) }
+    {
+        let loops = joined(g.own, g.loops, alloc)?;
+        let inner = Targets {
+            labels: g.labels,
+            loops: &loops,
+            can_break: true,
+            can_continue: true,
+            own: &[],
+        };
+        self.walk_all(children, core_too, &inner, alloc)
     }
 
     /// The same of each of some trees.

@@ -65,6 +65,7 @@ fn level_round(levels: u32) -> Result<u32, Fault> {
 }
 
 /// A statement round parts that have so many levels.
+#[inline(never)]
 pub(crate) fn nest_stmt(node: Stmt, levels: u32) -> Result<Nested<Stmt>, Fault> {
     Ok(part(node, level_round(levels)?))
 }
@@ -79,7 +80,7 @@ pub(crate) fn part<T>(node: T, levels: u32) -> Nested<T> {
 }
 
 /// Adds to a list, which takes room for one item at first, as most lists have no more.
-#[inline(always)]
+#[inline(never)]
 pub(crate) fn add<T: Drop>(list: &mut Vec<T>, item: T) -> Result<(), Fault> {
     if list.is_empty() {
         list.reserve_exact(1)?;
@@ -88,8 +89,22 @@ pub(crate) fn add<T: Drop>(list: &mut Vec<T>, item: T) -> Result<(), Fault> {
     Ok(())
 }
 
+/// Adds an expression to a list, without its box.
+#[inline(never)]
+pub(crate) fn add_unboxed(list: &mut Vec<Expr>, expr: Box<Expr>) -> Result<(), Fault> {
+    add(list, Box::into_inner(expr))
+}
+
+/// A list that ends, which keeps room for no more items. Their levels are given.
+#[inline(never)]
+pub(crate) fn ended<T>(list: Vec<T>, levels: u32) -> Nested<Vec<T>> {
+    let mut list = list;
+    list.shrink_to_fit();
+    part(list, levels)
+}
+
 /// Takes the items from this place on off a stack. The list that they make has room for no more.
-#[inline(always)]
+#[inline(never)]
 pub(crate) fn take_from<T>(stack: &mut Vec<T>, start: usize) -> Result<Vec<T>, Fault> {
     let start = start.min(stack.len());
     Ok(stack.split_off(start)?)

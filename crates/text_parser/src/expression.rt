@@ -1,10 +1,10 @@
 //! Expressions with operators. What is named `.._behind` goes on behind an operand that was read.
-use crate::cursor::{Nested, Parser, inside};
+use crate::cursor::{Nested, Parser, add_unboxed, inside};
 use crate::names::target;
 use crate::operators::{assign_op, binary_op, unary_op, update_op};
 use swc_ast::{
-    AssignExpr, BinExpr, BinaryOp, CondExpr, Expr, SeqExpr, UnaryExpr, UnaryOp, UpdateExpr,
-    UpdateOp,
+    AssignExpr, AssignOp, BinExpr, BinaryOp, CondExpr, Expr, SeqExpr, UnaryExpr, UnaryOp,
+    UpdateExpr, UpdateOp,
 };
 use text_lexer::{Construct, Fault, Kind};
 
@@ -75,6 +75,7 @@ impl<'a> Parser<'a> {
     }
 
     /// Further expressions behind commas.
+    #[inline(never)]
     #[cycle(parser)]
     pub(crate) fn expression_behind(
         &mut self,
@@ -87,14 +88,14 @@ impl<'a> Parser<'a> {
         }
         let mut exprs = Vec::new(self.alloc);
         let mut levels = first.levels;
-        exprs.push(Box::into_inner(first.node))?;
+        add_unboxed(&mut exprs, first.node)?;
         for _ in self.place..self.tokens.len() {
             if !self.take(Kind::Comma) {
                 break;
             }
             let next = self.assignment(inside(room)?)?;
             levels = levels.max(next.levels);
-            exprs.push(Box::into_inner(next.node))?;
+            add_unboxed(&mut exprs, next.node)?;
         }
         exprs.shrink_to_fit();
         let span = self.span_from(start);
@@ -115,6 +116,7 @@ impl<'a> Parser<'a> {
         self.assignment_behind(room, start, first)
     }
 
+    #[inline(never)]
     #[cycle(parser)]
     pub(crate) fn assignment_behind(
         &mut self,
@@ -126,9 +128,22 @@ impl<'a> Parser<'a> {
         if self.is_at(Kind::Question) {
             return self.choice_behind(room, start, left);
         }
-        let Some(op) = assign_op(self.kind()) else {
-            return Ok(left);
-        };
+        match assign_op(self.kind()) {
+            Some(op) => self.value_behind(room, start, left, op),
+            None => Ok(left),
+        }
+    }
+
+    /// `= a`
+    #[inline(never)]
+    #[cycle(parser)]
+    fn value_behind(
+        &mut self,
+        room: u32,
+        start: u32,
+        left: Nested<Box<Expr>>,
+        op: AssignOp,
+    ) -> Result<Nested<Box<Expr>>, Fault> {
         let levels = left.levels;
         let left = target(left, start)?;
         self.bump();
@@ -144,6 +159,7 @@ impl<'a> Parser<'a> {
     }
 
     /// `? a : b`
+    #[inline(never)]
     #[cycle(parser)]
     fn choice_behind(
         &mut self,
@@ -155,6 +171,17 @@ impl<'a> Parser<'a> {
         let cons = self.assignment(inside(room)?)?;
         self.expect(Kind::Colon)?;
         let alt = self.assignment(inside(room)?)?;
+        self.choice(start, test, cons, alt)
+    }
+
+    #[inline(never)]
+    fn choice(
+        &self,
+        start: u32,
+        test: Nested<Box<Expr>>,
+        cons: Nested<Box<Expr>>,
+        alt: Nested<Box<Expr>>,
+    ) -> Result<Nested<Box<Expr>>, Fault> {
         let levels = test.levels.max(cons.levels).max(alt.levels);
         let node = CondExpr {
             span: self.span_from(start),
@@ -166,6 +193,7 @@ impl<'a> Parser<'a> {
     }
 
     /// Operators that bind more tightly than `least`, with their operands.
+    #[inline(never)]
     #[cycle(parser)]
     fn binary_behind(
         &mut self,
@@ -203,6 +231,7 @@ impl<'a> Parser<'a> {
         self.binary_behind(inside(room)?, start, first, least)
     }
 
+    #[inline(never)]
     fn binary(
         &self,
         start: u32,
@@ -228,10 +257,7 @@ impl<'a> Parser<'a> {
             return self.unary(room, op);
         }
         if let Some(op) = update_op(self.kind()) {
-            self.bump();
-            let arg_start = self.start();
-            let arg = self.operand(inside(room)?)?;
-            return self.update(start, op, true, arg, arg_start);
+            return self.update_in_front(room, op);
         }
         if self.has_chains && self.is_at_chain() {
             return Err(self.leave_out(Construct::OptChain));
@@ -243,6 +269,7 @@ impl<'a> Parser<'a> {
         self.operand_behind(room, start, first)
     }
 
+    #[inline(never)]
     #[cycle(parser)]
     fn unary(&mut self, room: u32, op: UnaryOp) -> Result<Nested<Box<Expr>>, Fault> {
         let start = self.start();
@@ -257,6 +284,17 @@ impl<'a> Parser<'a> {
             arg: arg.node,
         };
         self.nest(Expr::Unary(node), arg.levels)
+    }
+
+    /// `++a` or `--a`
+    #[inline(never)]
+    #[cycle(parser)]
+    fn update_in_front(&mut self, room: u32, op: UpdateOp) -> Result<Nested<Box<Expr>>, Fault> {
+        let start = self.start();
+        self.bump();
+        let arg_start = self.start();
+        let arg = self.operand(inside(room)?)?;
+        self.update(start, op, true, arg, arg_start)
     }
 
     /// Members and calls, and `++` or `--` behind them.
@@ -278,6 +316,7 @@ impl<'a> Parser<'a> {
         self.update(start, op, false, found, start)
     }
 
+    #[inline(never)]
     fn update(
         &mut self,
         start: u32,

@@ -1,10 +1,10 @@
 //! Functions.
-use crate::cursor::{Nested, Parser, add, inside, part};
+use crate::cursor::{Nested, Parser, add, ended, inside, nest_stmt, part};
 use crate::names::redeclared;
 use crate::scopes::ScopeKind;
 use swc_ast::{
-    ArrowExpr, AssignPat, BlockStmt, BlockStmtOrExpr, Expr, FnDecl, FnExpr, Function, Pat,
-    VarDeclKind,
+    ArrowExpr, AssignPat, BlockStmt, BlockStmtOrExpr, Decl, Expr, FnDecl, FnExpr, Function, Ident,
+    Pat, Stmt, VarDeclKind,
 };
 use text_lexer::{Construct, Fault, Kind};
 
@@ -26,22 +26,43 @@ impl<'a> Parser<'a> {
         self.expect(Kind::Function)
     }
 
+    #[inline(never)]
     #[cycle(parser)]
     pub(crate) fn function_expr(&mut self, room: u32) -> Result<Nested<Box<Expr>>, Fault> {
         let start = self.start();
         self.function_word()?;
-        let mut ident = None;
-        if !self.is_at(Kind::LeftParen) {
-            let token = self.token();
-            self.scopes.open(ScopeKind::Block)?;
-            let mut name = self.bound()?;
-            name.ctxt = self.declare(VarDeclKind::Let, token)?;
-            ident = Some(name);
-        }
+        let ident = self.own_name()?;
         let function = self.function(room, start)?;
         if ident.is_some() {
             self.scopes.close()?;
         }
+        self.function_of(ident, function)
+    }
+
+    /// The own name of a function that is no declaration, if it has one, in a scope that it opens.
+    #[inline(never)]
+    fn own_name(&mut self) -> Result<Option<Ident>, Fault> {
+        if self.is_at(Kind::LeftParen) {
+            return Ok(None);
+        }
+        self.scopes.open(ScopeKind::Block)?;
+        Ok(Some(self.function_name()?))
+    }
+
+    /// The name of a function, which is declared here.
+    fn function_name(&mut self) -> Result<Ident, Fault> {
+        let token = self.token();
+        let mut name = self.bound()?;
+        name.ctxt = self.declare(VarDeclKind::Let, token)?;
+        Ok(name)
+    }
+
+    #[inline(never)]
+    fn function_of(
+        &self,
+        ident: Option<Ident>,
+        function: Nested<Function>,
+    ) -> Result<Nested<Box<Expr>>, Fault> {
         let node = FnExpr {
             ident,
             function: Box::new(self.alloc, function.node)?,
@@ -49,27 +70,41 @@ impl<'a> Parser<'a> {
         self.nest(Expr::Fn(node), function.levels)
     }
 
-    /// A function's declaration, whose name may be exported. Its levels are those of its parts.
-    #[cycle(parser)]
-    pub(crate) fn function_decl(
-        &mut self,
-        room: u32,
-        is_exported: bool,
-    ) -> Result<Nested<FnDecl>, Fault> {
+    /// A function's declaration that is exported.
+    pub(crate) fn exported_function(&mut self, room: u32) -> Result<FnDecl, Fault> {
         let start = self.start();
         self.function_word()?;
         let token = self.token();
-        let mut ident = self.bound()?;
-        ident.ctxt = self.declare(VarDeclKind::Let, token)?;
-        if is_exported {
-            self.export(token)?;
-        }
+        let ident = self.function_name()?;
+        self.export(token)?;
         let function = self.function(room, start)?;
+        Ok(FnDecl {
+            ident,
+            function: Box::new(self.alloc, function.node)?,
+        })
+    }
+
+    #[inline(never)]
+    #[cycle(parser)]
+    pub(crate) fn function_stmt(&mut self, room: u32) -> Result<Nested<Stmt>, Fault> {
+        let start = self.start();
+        self.function_word()?;
+        let ident = self.function_name()?;
+        let function = self.function(room, start)?;
+        self.function_stmt_of(ident, function)
+    }
+
+    #[inline(never)]
+    fn function_stmt_of(
+        &self,
+        ident: Ident,
+        function: Nested<Function>,
+    ) -> Result<Nested<Stmt>, Fault> {
         let node = FnDecl {
             ident,
             function: Box::new(self.alloc, function.node)?,
         };
-        Ok(part(node, function.levels))
+        nest_stmt(Stmt::Decl(Decl::Fn(node)), function.levels)
     }
 
     /// The function of a default export, whose name may be missing.
@@ -78,10 +113,7 @@ impl<'a> Parser<'a> {
         self.function_word()?;
         let mut ident = None;
         if !self.is_at(Kind::LeftParen) {
-            let token = self.token();
-            let mut name = self.bound()?;
-            name.ctxt = self.declare(VarDeclKind::Let, token)?;
-            ident = Some(name);
+            ident = Some(self.function_name()?);
         }
         let function = self.function(room, start)?;
         Ok(FnExpr {
@@ -91,6 +123,7 @@ impl<'a> Parser<'a> {
     }
 
     /// The parameters and the body of a function or a method that begins at an offset.
+    #[inline(never)]
     #[cycle(parser)]
     pub(crate) fn function(&mut self, room: u32, start: u32) -> Result<Nested<Function>, Fault> {
         self.scopes.open(ScopeKind::Function)?;
@@ -109,6 +142,7 @@ impl<'a> Parser<'a> {
     }
 
     /// A function's body, which opens a scope of its own beside a default.
+    #[inline(never)]
     #[cycle(parser)]
     fn body(&mut self, room: u32, beside_default: bool) -> Result<Nested<BlockStmt>, Fault> {
         let start = self.start();
@@ -128,6 +162,7 @@ impl<'a> Parser<'a> {
         Ok(part(node, stmts.levels))
     }
 
+    #[inline(never)]
     #[cycle(parser)]
     fn params(&mut self, room: u32) -> Result<Nested<Vec<Pat>>, Fault> {
         let mut params = Vec::new(self.alloc);
@@ -145,10 +180,10 @@ impl<'a> Parser<'a> {
             }
         }
         self.expect(Kind::RightParen)?;
-        params.shrink_to_fit();
-        Ok(part(params, levels))
+        Ok(ended(params, levels))
     }
 
+    #[inline(never)]
     #[cycle(parser)]
     fn param(&mut self, room: u32) -> Result<Nested<Pat>, Fault> {
         let token = self.token();
@@ -172,19 +207,13 @@ impl<'a> Parser<'a> {
         Ok(part(Pat::Assign(node), value.levels))
     }
 
+    #[inline(never)]
     #[cycle(parser)]
     pub(crate) fn arrow(&mut self, room: u32) -> Result<Nested<Box<Expr>>, Fault> {
         let start = self.start();
         self.scopes.open(ScopeKind::Function)?;
         let outer = self.targets.enter();
-        let params = if self.is_at(Kind::Name) {
-            let only = self.param(room)?;
-            let mut params = Vec::new(self.alloc);
-            add(&mut params, only.node)?;
-            part(params, only.levels)
-        } else {
-            self.params(room)?
-        };
+        let params = self.arrow_params(room)?;
         if self.token().on_new_line {
             return Err(self.refuse());
         }
@@ -192,6 +221,29 @@ impl<'a> Parser<'a> {
         let body = self.arrow_body(room, has_default(params.node.as_slice()))?;
         self.targets.leave(outer);
         self.scopes.close()?;
+        self.arrow_of(start, params, body)
+    }
+
+    /// The parameters of an arrow: a name by itself, or a list in parentheses.
+    #[inline(never)]
+    #[cycle(parser)]
+    fn arrow_params(&mut self, room: u32) -> Result<Nested<Vec<Pat>>, Fault> {
+        if !self.is_at(Kind::Name) {
+            return self.params(room);
+        }
+        let only = self.param(room)?;
+        let mut params = Vec::new(self.alloc);
+        add(&mut params, only.node)?;
+        Ok(part(params, only.levels))
+    }
+
+    #[inline(never)]
+    fn arrow_of(
+        &self,
+        start: u32,
+        params: Nested<Vec<Pat>>,
+        body: Nested<BlockStmtOrExpr>,
+    ) -> Result<Nested<Box<Expr>>, Fault> {
         let levels = body.levels.max(params.levels);
         let node = ArrowExpr {
             span: self.span_from(start),
@@ -202,6 +254,7 @@ impl<'a> Parser<'a> {
         self.nest(Expr::Arrow(node), levels)
     }
 
+    #[inline(never)]
     #[cycle(parser)]
     fn arrow_body(
         &mut self,

@@ -1,4 +1,5 @@
-//! The parser of core text.
+//! The parser of core text. What builds a node stands in functions of its own, named `.._of`, so that a level of the text takes
+//! little of the stack.
 #![tactic(auto)]
 
 mod contexts;

@@ -94,6 +94,7 @@ impl<'a> Parser<'a> {
     }
 
     /// Whether what stands here is an operand with `?.` behind it.
+    #[inline(never)]
     pub(crate) fn is_at_chain(&self) -> bool {
         let mut place = self.place;
         for _ in self.place..self.tokens.len() {
@@ -117,6 +118,7 @@ impl<'a> Parser<'a> {
     }
 
     /// What a `for` here is that goes over a list or over keys.
+    #[inline(never)]
     pub(crate) fn each_loop(&self) -> Option<Construct> {
         let mut place = self.place.saturating_add(2);
         let mut before = Kind::LeftParen;
@@ -156,6 +158,7 @@ impl<'a> Parser<'a> {
     }
 
     /// The place of the first `in` that the first part of a `for` may not have, where that part begins here.
+    #[inline(never)]
     pub(crate) fn place_of_in(&self) -> usize {
         let mut place = self.place;
         let mut before = Kind::LeftParen;

@@ -7,6 +7,7 @@ use text_lexer::{Construct, Fault, Kind};
 
 impl<'a> Parser<'a> {
     /// `(a)`
+    #[inline(never)]
     #[cycle(parser)]
     pub(crate) fn head(&mut self, room: u32) -> Result<Nested<Box<Expr>>, Fault> {
         self.expect(Kind::LeftParen)?;
@@ -15,14 +16,16 @@ impl<'a> Parser<'a> {
         Ok(test)
     }
 
+    #[inline(never)]
     #[cycle(parser)]
     fn loop_body(&mut self, room: u32) -> Result<Nested<Box<Stmt>>, Fault> {
         self.targets.push(Target::Loop)?;
-        let body = self.statement(inside(room)?)?;
+        let body = self.boxed_statement(room)?;
         self.targets.pop(Target::Loop);
-        Ok(part(Box::new(self.alloc, body.node)?, body.levels))
+        Ok(body)
     }
 
+    #[inline(never)]
     #[cycle(parser)]
     pub(crate) fn while_loop(&mut self, room: u32) -> Result<Nested<Stmt>, Fault> {
         let start = self.start();
@@ -38,6 +41,7 @@ impl<'a> Parser<'a> {
         nest_stmt(Stmt::While(node), levels)
     }
 
+    #[inline(never)]
     #[cycle(parser)]
     pub(crate) fn do_loop(&mut self, room: u32) -> Result<Nested<Stmt>, Fault> {
         let start = self.start();
@@ -55,6 +59,7 @@ impl<'a> Parser<'a> {
         nest_stmt(Stmt::DoWhile(node), levels)
     }
 
+    #[inline(never)]
     #[cycle(parser)]
     pub(crate) fn for_loop(&mut self, room: u32) -> Result<Nested<Stmt>, Fault> {
         let start = self.start();
@@ -67,6 +72,18 @@ impl<'a> Parser<'a> {
         let update = self.optional(room, Kind::RightParen)?;
         let body = self.loop_body(room)?;
         self.scopes.close()?;
+        self.for_loop_of(start, init, test, update, body)
+    }
+
+    #[inline(never)]
+    fn for_loop_of(
+        &self,
+        start: u32,
+        init: Nested<Option<VarDeclOrExpr>>,
+        test: Nested<Option<Box<Expr>>>,
+        update: Nested<Option<Box<Expr>>>,
+        body: Nested<Box<Stmt>>,
+    ) -> Result<Nested<Stmt>, Fault> {
         let levels = init
             .levels
             .max(test.levels)
@@ -101,6 +118,7 @@ impl<'a> Parser<'a> {
     }
 
     /// The first part of a `for`, with its semicolon.
+    #[inline(never)]
     #[cycle(parser)]
     fn first_part(&mut self, room: u32) -> Result<Nested<Option<VarDeclOrExpr>>, Fault> {
         if self.take(Kind::Semicolon) {
@@ -121,6 +139,7 @@ impl<'a> Parser<'a> {
     }
 
     /// An expression, if there is one before this token, which is passed.
+    #[inline(never)]
     #[cycle(parser)]
     fn optional(&mut self, room: u32, end: Kind) -> Result<Nested<Option<Box<Expr>>>, Fault> {
         if self.take(end) {

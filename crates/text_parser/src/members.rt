@@ -1,5 +1,5 @@
 //! Members, calls and `new`.
-use crate::cursor::{Nested, Parser, add, inside, part};
+use crate::cursor::{Nested, Parser, add_unboxed, ended, inside, part};
 use swc_ast::{CallExpr, ComputedPropName, Expr, MemberExpr, MemberProp, NewExpr};
 use text_lexer::{Construct, Fault, Kind};
 
@@ -16,10 +16,8 @@ impl<'a> Parser<'a> {
         let mut left = first;
         for _ in self.place..self.tokens.len() {
             match self.kind() {
-                Kind::Dot | Kind::LeftBracket => {
-                    let prop = self.member_prop(room)?;
-                    left = self.member(start, left, prop)?;
-                }
+                Kind::Dot => left = self.named_member(start, left)?,
+                Kind::LeftBracket => left = self.computed_member(room, start, left)?,
                 Kind::LeftParen if with_calls => {
                     let args = self.arguments(room)?;
                     left = self.call(start, left, args)?;
@@ -33,6 +31,7 @@ impl<'a> Parser<'a> {
         Ok(left)
     }
 
+    #[inline(never)]
     fn member(
         &self,
         start: u32,
@@ -48,6 +47,7 @@ impl<'a> Parser<'a> {
         self.nest(Expr::Member(node), levels)
     }
 
+    #[inline(never)]
     fn call(
         &self,
         start: u32,
@@ -63,23 +63,51 @@ impl<'a> Parser<'a> {
         self.nest(Expr::Call(node), levels)
     }
 
-    /// `.a` or `[a]`
+    /// `.a`
+    #[inline(never)]
+    fn named_member(
+        &mut self,
+        start: u32,
+        obj: Nested<Box<Expr>>,
+    ) -> Result<Nested<Box<Expr>>, Fault> {
+        self.expect(Kind::Dot)?;
+        let name = self.word()?;
+        self.member(start, obj, part(MemberProp::Ident(name), 0))
+    }
+
+    /// `[a]`
+    #[inline(never)]
     #[cycle(parser)]
-    fn member_prop(&mut self, room: u32) -> Result<Nested<MemberProp>, Fault> {
-        let start = self.start();
-        if self.take(Kind::Dot) {
-            return Ok(part(MemberProp::Ident(self.word()?), 0));
-        }
+    fn computed_member(
+        &mut self,
+        room: u32,
+        start: u32,
+        obj: Nested<Box<Expr>>,
+    ) -> Result<Nested<Box<Expr>>, Fault> {
+        let opening = self.start();
         self.expect(Kind::LeftBracket)?;
         let key = self.expression(inside(room)?)?;
         self.expect(Kind::RightBracket)?;
-        let prop = ComputedPropName {
-            span: self.span_from(start),
-            expr: key.node,
-        };
-        Ok(part(MemberProp::Computed(prop), key.levels))
+        self.member_of_key(start, obj, opening, key)
     }
 
+    /// The member whose key's brackets begin at an offset and end here.
+    #[inline(never)]
+    fn member_of_key(
+        &self,
+        start: u32,
+        obj: Nested<Box<Expr>>,
+        opening: u32,
+        key: Nested<Box<Expr>>,
+    ) -> Result<Nested<Box<Expr>>, Fault> {
+        let prop = ComputedPropName {
+            span: self.span_from(opening),
+            expr: key.node,
+        };
+        self.member(start, obj, part(MemberProp::Computed(prop), key.levels))
+    }
+
+    #[inline(never)]
     #[cycle(parser)]
     fn arguments(&mut self, room: u32) -> Result<Nested<Vec<Expr>>, Fault> {
         self.expect(Kind::LeftParen)?;
@@ -94,16 +122,16 @@ impl<'a> Parser<'a> {
             }
             let arg = self.assignment(inside(room)?)?;
             levels = levels.max(arg.levels);
-            add(&mut args, Box::into_inner(arg.node))?;
+            add_unboxed(&mut args, arg.node)?;
             if !self.take(Kind::Comma) {
                 break;
             }
         }
         self.expect(Kind::RightParen)?;
-        args.shrink_to_fit();
-        Ok(part(args, levels))
+        Ok(ended(args, levels))
     }
 
+    #[inline(never)]
     #[cycle(parser)]
     pub(crate) fn construction(&mut self, room: u32) -> Result<Nested<Box<Expr>>, Fault> {
         let start = self.start();
@@ -119,6 +147,16 @@ impl<'a> Parser<'a> {
         } else {
             part(Vec::new(self.alloc), 0)
         };
+        self.new_of(start, callee, args)
+    }
+
+    #[inline(never)]
+    fn new_of(
+        &self,
+        start: u32,
+        callee: Nested<Box<Expr>>,
+        args: Nested<Vec<Expr>>,
+    ) -> Result<Nested<Box<Expr>>, Fault> {
         let levels = callee.levels.max(args.levels);
         let node = NewExpr {
             span: self.span_from(start),

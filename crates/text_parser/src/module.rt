@@ -123,15 +123,13 @@ impl<'a> Parser<'a> {
             Kind::LeftBrace => self.named_export(start),
             Kind::Default => self.default_export(room, start),
             Kind::Var | Kind::Let | Kind::Const => {
-                let decl = self.declaration(room, true)?;
+                let decl = Decl::Var(self.exported_variables(room)?);
                 let span = self.span_from(start);
-                let decl = Decl::Var(decl.node);
                 Ok(ModuleDecl::ExportDecl(ExportDecl { span, decl }))
             }
             Kind::Function => {
-                let decl = self.function_decl(room, true)?;
+                let decl = Decl::Fn(self.exported_function(room)?);
                 let span = self.span_from(start);
-                let decl = Decl::Fn(decl.node);
                 Ok(ModuleDecl::ExportDecl(ExportDecl { span, decl }))
             }
             Kind::Class => Err(self.leave_out(Construct::Class)),

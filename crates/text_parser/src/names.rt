@@ -33,6 +33,7 @@ pub(crate) fn redeclared(at: u32) -> Fault {
 
 impl<'a> Parser<'a> {
     /// A name, which is passed.
+    #[inline(never)]
     pub(crate) fn ident(&mut self) -> Result<Ident, Fault> {
         let token = self.token();
         if !self.take(Kind::Name) {
@@ -56,6 +57,7 @@ impl<'a> Parser<'a> {
     }
 
     /// A name that is bound, which is passed.
+    #[inline(never)]
     pub(crate) fn bound(&mut self) -> Result<Ident, Fault> {
         let token = self.token();
         if is_restricted(self.text_of(token)) {
@@ -65,6 +67,7 @@ impl<'a> Parser<'a> {
     }
 
     /// A name that is bound where destructuring could stand too, which is passed.
+    #[inline(never)]
     pub(crate) fn bound_or_pattern(&mut self) -> Result<Ident, Fault> {
         if matches!(self.kind(), Kind::LeftBrace | Kind::LeftBracket) {
             return Err(self.leave_out(Construct::Pattern));
@@ -73,6 +76,7 @@ impl<'a> Parser<'a> {
     }
 
     /// A name or a reserved word, which is passed.
+    #[inline(never)]
     pub(crate) fn word(&mut self) -> Result<IdentName, Fault> {
         let token = self.token();
         if !self.is_word(token) {
@@ -112,6 +116,7 @@ impl<'a> Parser<'a> {
     }
 
     /// Declares a name whose token was passed last, and says which context it has.
+    #[inline(never)]
     pub(crate) fn declare(
         &mut self,
         kind: VarDeclKind,

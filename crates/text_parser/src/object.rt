@@ -1,12 +1,23 @@
 //! Objects.
 use crate::cursor::{Nested, Parser, add, inside, part};
 use swc_ast::{
-    ComputedPropName, Expr, KeyValueProp, MethodProp, ObjectLit, Prop, PropName, PropOrSpread,
-    SpreadElement,
+    ComputedPropName, Expr, Function, KeyValueProp, MethodProp, ObjectLit, Prop, PropName,
+    PropOrSpread, SpreadElement,
 };
 use text_lexer::{Construct, Fault, Kind};
 
+#[inline(never)]
+fn key_value(key: Nested<PropName>, value: Nested<Box<Expr>>) -> Nested<PropOrSpread> {
+    let levels = key.levels.max(value.levels);
+    let node = KeyValueProp {
+        key: key.node,
+        value: value.node,
+    };
+    part(PropOrSpread::Prop(Prop::KeyValue(node)), levels)
+}
+
 impl<'a> Parser<'a> {
+    #[inline(never)]
     #[cycle(parser)]
     pub(crate) fn object(&mut self, room: u32) -> Result<Nested<Box<Expr>>, Fault> {
         let start = self.start();
@@ -25,12 +36,24 @@ impl<'a> Parser<'a> {
             }
         }
         self.expect(Kind::RightBrace)?;
+        self.object_of(start, props, levels)
+    }
+
+    #[inline(never)]
+    fn object_of(
+        &self,
+        start: u32,
+        items: Vec<PropOrSpread>,
+        levels: u32,
+    ) -> Result<Nested<Box<Expr>>, Fault> {
+        let mut props = items;
         props.shrink_to_fit();
         let span = self.span_from(start);
         self.nest(Expr::Object(ObjectLit { span, props }), levels)
     }
 
     /// A property. Its levels are those of its expressions.
+    #[inline(never)]
     #[cycle(parser)]
     fn property(&mut self, room: u32) -> Result<Nested<PropOrSpread>, Fault> {
         let token = self.token();
@@ -39,31 +62,41 @@ impl<'a> Parser<'a> {
         }
         let behind = self.next_kind();
         if matches!(token.kind, Kind::Name) && matches!(behind, Kind::Comma | Kind::RightBrace) {
-            let name = self.ident()?;
-            return Ok(part(PropOrSpread::Prop(Prop::Shorthand(name)), 0));
+            return self.shorthand();
         }
         self.refuse_special_method()?;
         let key = self.key(room)?;
         if self.is_at(Kind::LeftParen) {
             let function = self.function(room, token.start)?;
-            let levels = key.levels.max(function.levels);
-            let node = MethodProp {
-                key: key.node,
-                function: Box::new(self.alloc, function.node)?,
-            };
-            return Ok(part(PropOrSpread::Prop(Prop::Method(node)), levels));
+            return self.method(key, function);
         }
         self.expect(Kind::Colon)?;
         let value = self.assignment(inside(room)?)?;
-        let node = KeyValueProp {
+        Ok(key_value(key, value))
+    }
+
+    #[inline(never)]
+    fn shorthand(&mut self) -> Result<Nested<PropOrSpread>, Fault> {
+        let name = self.ident()?;
+        Ok(part(PropOrSpread::Prop(Prop::Shorthand(name)), 0))
+    }
+
+    #[inline(never)]
+    fn method(
+        &self,
+        key: Nested<PropName>,
+        function: Nested<Function>,
+    ) -> Result<Nested<PropOrSpread>, Fault> {
+        let levels = key.levels.max(function.levels);
+        let node = MethodProp {
             key: key.node,
-            value: value.node,
+            function: Box::new(self.alloc, function.node)?,
         };
-        let levels = key.levels.max(value.levels);
-        Ok(part(PropOrSpread::Prop(Prop::KeyValue(node)), levels))
+        Ok(part(PropOrSpread::Prop(Prop::Method(node)), levels))
     }
 
     /// `...a`
+    #[inline(never)]
     #[cycle(parser)]
     fn spread(&mut self, room: u32) -> Result<Nested<PropOrSpread>, Fault> {
         let start = self.start();
@@ -76,6 +109,7 @@ impl<'a> Parser<'a> {
     }
 
     /// Refuses getters, setters, generators and asynchronous methods.
+    #[inline(never)]
     fn refuse_special_method(&self) -> Result<(), Fault> {
         let token = self.token();
         if matches!(token.kind, Kind::Star) {
@@ -100,6 +134,7 @@ impl<'a> Parser<'a> {
         }
     }
 
+    #[inline(never)]
     #[cycle(parser)]
     fn key(&mut self, room: u32) -> Result<Nested<PropName>, Fault> {
         let start = self.start();

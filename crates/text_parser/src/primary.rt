@@ -1,5 +1,5 @@
 //! Names, literals, templates, arrays and parentheses.
-use crate::cursor::{Nested, Parser, add, inside, part};
+use crate::cursor::{Nested, Parser, add, add_unboxed, inside, part};
 use swc_ast::{
     ArrayLit, Bool, Expr, ExprOrSpread, Lit, Null, Number, Str, ThisExpr, Tpl, TplElement,
 };
@@ -8,15 +8,8 @@ use text_lexer::{Construct, Fault, Kind, Token};
 impl<'a> Parser<'a> {
     #[cycle(parser)]
     pub(crate) fn primary(&mut self, room: u32) -> Result<Nested<Box<Expr>>, Fault> {
-        let token = self.token();
-        match token.kind {
-            Kind::Name => {
-                if self.is_at_async() {
-                    return Err(self.leave_out(Construct::Async));
-                }
-                let name = self.ident()?;
-                self.nest(Expr::Ident(name), 0)
-            }
+        match self.kind() {
+            Kind::Name => self.name(),
             Kind::LeftParen => self.parenthesized(room),
             Kind::LeftBracket => self.array(room),
             Kind::LeftBrace => self.object(room),
@@ -24,15 +17,25 @@ impl<'a> Parser<'a> {
             Kind::Function => self.function_expr(room),
             Kind::Template | Kind::TemplateHead => self.template(room),
             Kind::Number | Kind::Text | Kind::True | Kind::False | Kind::Null | Kind::This => {
-                self.literal(token)
+                self.literal()
             }
-            _ => Err(self.no_operand()),
+            _ => self.no_operand(),
         }
     }
 
-    /// Why no operand begins here.
-    fn no_operand(&self) -> Fault {
-        match self.kind() {
+    #[inline(never)]
+    fn name(&mut self) -> Result<Nested<Box<Expr>>, Fault> {
+        if self.is_at_async() {
+            return Err(self.leave_out(Construct::Async));
+        }
+        let name = self.ident()?;
+        self.nest(Expr::Ident(name), 0)
+    }
+
+    /// Refuses what begins no operand.
+    #[inline(never)]
+    fn no_operand(&self) -> Result<Nested<Box<Expr>>, Fault> {
+        Err(match self.kind() {
             Kind::WideName => self.leave_out(Construct::Name),
             Kind::Class => self.leave_out(Construct::Class),
             Kind::Regex | Kind::Slash | Kind::SlashEqual => self.leave_out(Construct::Regex),
@@ -45,10 +48,12 @@ impl<'a> Parser<'a> {
                 }
             }
             _ => self.refuse(),
-        }
+        })
     }
 
-    fn literal(&mut self, token: Token) -> Result<Nested<Box<Expr>>, Fault> {
+    #[inline(never)]
+    fn literal(&mut self) -> Result<Nested<Box<Expr>>, Fault> {
+        let token = self.token();
         let node = match token.kind {
             Kind::Number => Expr::Lit(Lit::Num(self.number()?)),
             Kind::Text => Expr::Lit(Lit::Str(self.text_literal()?)),
@@ -103,6 +108,7 @@ impl<'a> Parser<'a> {
         }
     }
 
+    #[inline(never)]
     #[cycle(parser)]
     fn template(&mut self, room: u32) -> Result<Nested<Box<Expr>>, Fault> {
         let start = self.start();
@@ -110,30 +116,48 @@ impl<'a> Parser<'a> {
         let mut exprs = Vec::new(self.alloc);
         let mut levels = 0;
         for _ in self.place..self.tokens.len() {
-            let quasi = self.quasi()?;
-            let tail = quasi.tail;
-            add(&mut quasis, quasi)?;
-            if tail {
+            if self.add_quasi(&mut quasis)? {
                 break;
             }
             let found = self.expression(inside(room)?)?;
             levels = levels.max(found.levels);
-            add(&mut exprs, Box::into_inner(found.node))?;
+            add_unboxed(&mut exprs, found.node)?;
             if !matches!(self.kind(), Kind::TemplateMiddle | Kind::TemplateTail) {
                 return Err(self.refuse());
             }
         }
-        quasis.shrink_to_fit();
-        exprs.shrink_to_fit();
-        let node = Tpl {
+        self.template_of(start, quasis, exprs, levels)
+    }
+
+    #[inline(never)]
+    fn template_of(
+        &self,
+        start: u32,
+        quasis: Vec<TplElement>,
+        exprs: Vec<Expr>,
+        levels: u32,
+    ) -> Result<Nested<Box<Expr>>, Fault> {
+        let mut node = Tpl {
             span: self.span_from(start),
             quasis,
             exprs,
         };
+        node.quasis.shrink_to_fit();
+        node.exprs.shrink_to_fit();
         self.nest(Expr::Tpl(node), levels)
     }
 
+    /// Adds a template's part, which is passed. Whether it is the last is returned.
+    #[inline(never)]
+    fn add_quasi(&mut self, quasis: &mut Vec<TplElement>) -> Result<bool, Fault> {
+        let quasi = self.quasi()?;
+        let tail = quasi.tail;
+        add(quasis, quasi)?;
+        Ok(tail)
+    }
+
     /// A template's part, which is passed.
+    #[inline(never)]
     fn quasi(&mut self) -> Result<TplElement, Fault> {
         let token = self.token();
         let tail = matches!(token.kind, Kind::Template | Kind::TemplateTail);
@@ -146,6 +170,7 @@ impl<'a> Parser<'a> {
     }
 
     /// Parentheses. A run of them takes no deeper recursion than one.
+    #[inline(never)]
     #[cycle(parser)]
     fn parenthesized(&mut self, room: u32) -> Result<Nested<Box<Expr>>, Fault> {
         let first = self.place;
@@ -168,14 +193,27 @@ impl<'a> Parser<'a> {
             if open > 1 {
                 let opening = first.saturating_add(open).saturating_sub(1);
                 let start = self.token_at(opening).start;
-                let operand = self.operand_behind(inside(room)?, start, found)?;
-                let operators = self.assignment_behind(inside(room)?, start, operand)?;
-                found = self.expression_behind(inside(room)?, start, operators)?;
+                found = self.behind_parentheses(inside(room)?, start, found)?;
             }
         }
         Ok(found)
     }
 
+    /// What goes on behind parentheses, up to where those round them end.
+    #[inline(never)]
+    #[cycle(parser)]
+    fn behind_parentheses(
+        &mut self,
+        room: u32,
+        start: u32,
+        found: Nested<Box<Expr>>,
+    ) -> Result<Nested<Box<Expr>>, Fault> {
+        let operand = self.operand_behind(room, start, found)?;
+        let operators = self.assignment_behind(room, start, operand)?;
+        self.expression_behind(room, start, operators)
+    }
+
+    #[inline(never)]
     #[cycle(parser)]
     fn array(&mut self, room: u32) -> Result<Nested<Box<Expr>>, Fault> {
         let start = self.start();
@@ -198,12 +236,24 @@ impl<'a> Parser<'a> {
             }
         }
         self.expect(Kind::RightBracket)?;
+        self.array_of(start, elems, levels)
+    }
+
+    #[inline(never)]
+    fn array_of(
+        &self,
+        start: u32,
+        items: Vec<Option<ExprOrSpread>>,
+        levels: u32,
+    ) -> Result<Nested<Box<Expr>>, Fault> {
+        let mut elems = items;
         elems.shrink_to_fit();
         let span = self.span_from(start);
         self.nest(Expr::Array(ArrayLit { span, elems }), levels)
     }
 
     /// An item of an array, which may be spread.
+    #[inline(never)]
     #[cycle(parser)]
     fn item(&mut self, room: u32) -> Result<Nested<ExprOrSpread>, Fault> {
         let start = self.start();

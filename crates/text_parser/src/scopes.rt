@@ -150,6 +150,7 @@ impl<'a> Scopes<'a> {
         u32::try_from(self.scopes.len()).unwrap_or(0)
     }
 
+    #[inline(never)]
     pub(crate) fn open(&mut self, kind: ScopeKind) -> Result<(), AllocError> {
         let number = self.count();
         let round = self.innermost();
@@ -171,6 +172,7 @@ impl<'a> Scopes<'a> {
         Ok(())
     }
 
+    #[inline(never)]
     pub(crate) fn close(&mut self) -> Result<(), AllocError> {
         self.events.push(Event::Close)?;
         let closed = self.open.pop().unwrap_or(0);

@@ -3,7 +3,8 @@ use crate::cursor::{Nested, Parser, add, inside, nest_stmt, part, take_from};
 use crate::scopes::ScopeKind;
 use crate::targets::Target;
 use swc_ast::{
-    BlockStmt, Decl, EmptyStmt, ExprStmt, LabeledStmt, Stmt, VarDecl, VarDeclKind, VarDeclarator,
+    BlockStmt, Decl, EmptyStmt, Expr, ExprStmt, Ident, IdentName, LabeledStmt, Stmt, VarDecl,
+    VarDeclKind, VarDeclarator,
 };
 use text_lexer::{Construct, Fault, Kind, Token};
 
@@ -19,25 +20,63 @@ impl<'a> Parser<'a> {
             }
             let next = self.listed(inside(room)?)?;
             levels = levels.max(next.levels);
-            self.stmts.push(next.node)?;
+            self.keep(next.node)?;
         }
         Ok(part(take_from(&mut self.stmts, first)?, levels))
+    }
+
+    /// Keeps a statement of a list that has not ended.
+    #[inline(never)]
+    fn keep(&mut self, stmt: Stmt) -> Result<(), Fault> {
+        self.stmts.push(stmt)?;
+        Ok(())
     }
 
     /// A statement of a list: also what a list alone may declare.
     #[cycle(parser)]
     pub(crate) fn listed(&mut self, room: u32) -> Result<Nested<Stmt>, Fault> {
         match self.kind() {
-            Kind::Function => {
-                let decl = self.function_decl(room, false)?;
-                nest_stmt(Stmt::Decl(Decl::Fn(decl.node)), decl.levels)
-            }
-            Kind::Let | Kind::Const => {
-                let decl = self.declaration(room, false)?;
-                nest_stmt(Stmt::Decl(Decl::Var(decl.node)), decl.levels)
-            }
+            Kind::Function => self.function_stmt(room),
+            Kind::Let | Kind::Const => self.variable_stmt(room),
             _ => self.statement(room),
         }
+    }
+
+    #[inline(never)]
+    #[cycle(parser)]
+    fn variable_stmt(&mut self, room: u32) -> Result<Nested<Stmt>, Fault> {
+        let start = self.start();
+        let decl = self.declarators(room, false)?;
+        self.semicolon()?;
+        self.variable_stmt_of(start, decl)
+    }
+
+    #[inline(never)]
+    fn variable_stmt_of(&self, start: u32, decl: Nested<VarDecl>) -> Result<Nested<Stmt>, Fault> {
+        let mut node = decl.node;
+        node.span = self.span_from(start);
+        nest_stmt(Stmt::Decl(Decl::Var(node)), decl.levels)
+    }
+
+    #[inline(never)]
+    #[cycle(parser)]
+    fn block_stmt(&mut self, room: u32) -> Result<Nested<Stmt>, Fault> {
+        let start = self.start();
+        self.expect(Kind::LeftBrace)?;
+        self.scopes.open(ScopeKind::Block)?;
+        let stmts = self.statements(room)?;
+        self.scopes.close()?;
+        self.expect(Kind::RightBrace)?;
+        self.block_stmt_of(start, stmts)
+    }
+
+    #[inline(never)]
+    fn block_stmt_of(&self, start: u32, stmts: Nested<Vec<Stmt>>) -> Result<Nested<Stmt>, Fault> {
+        let node = BlockStmt {
+            span: self.span_from(start),
+            stmts: stmts.node,
+        };
+        nest_stmt(Stmt::Block(node), stmts.levels)
     }
 
     /// A block, which opens a scope.
@@ -56,21 +95,18 @@ impl<'a> Parser<'a> {
         Ok(part(node, stmts.levels))
     }
 
-    /// `var`, `let` or `const` with its semicolon, whose names may be exported.
-    #[cycle(parser)]
-    pub(crate) fn declaration(
-        &mut self,
-        room: u32,
-        is_exported: bool,
-    ) -> Result<Nested<VarDecl>, Fault> {
+    /// `var`, `let` or `const` with its semicolon, whose names are exported.
+    pub(crate) fn exported_variables(&mut self, room: u32) -> Result<VarDecl, Fault> {
         let start = self.start();
-        let mut decl = self.declarators(room, is_exported)?;
+        let decl = self.declarators(room, true)?;
         self.semicolon()?;
-        decl.node.span = self.span_from(start);
-        Ok(decl)
+        let mut node = decl.node;
+        node.span = self.span_from(start);
+        Ok(node)
     }
 
     /// `var`, `let` or `const` without its semicolon.
+    #[inline(never)]
     #[cycle(parser)]
     pub(crate) fn declarators(
         &mut self,
@@ -94,11 +130,18 @@ impl<'a> Parser<'a> {
                 break;
             }
         }
-        decls.shrink_to_fit();
-        let span = self.span_from(start);
-        Ok(part(VarDecl { span, kind, decls }, levels))
+        Ok(part(self.variables(start, kind, decls), levels))
     }
 
+    #[inline(never)]
+    fn variables(&self, start: u32, kind: VarDeclKind, list: Vec<VarDeclarator>) -> VarDecl {
+        let mut decls = list;
+        decls.shrink_to_fit();
+        let span = self.span_from(start);
+        VarDecl { span, kind, decls }
+    }
+
+    #[inline(never)]
     #[cycle(parser)]
     fn declarator(
         &mut self,
@@ -106,12 +149,8 @@ impl<'a> Parser<'a> {
         kind: VarDeclKind,
         is_exported: bool,
     ) -> Result<Nested<VarDeclarator>, Fault> {
-        let token = self.token();
-        let mut name = self.bound_or_pattern()?;
-        name.ctxt = self.declare(kind, token)?;
-        if is_exported {
-            self.export(token)?;
-        }
+        let start = self.start();
+        let name = self.variable(kind, is_exported)?;
         let mut init = None;
         let mut levels = 0;
         if self.take(Kind::Equal) {
@@ -121,22 +160,28 @@ impl<'a> Parser<'a> {
         } else if matches!(kind, VarDeclKind::Const) {
             return Err(self.refuse());
         }
-        let span = self.span_from(token.start);
+        let span = self.span_from(start);
         Ok(part(VarDeclarator { span, name, init }, levels))
+    }
+
+    /// The name of a variable, which is declared here.
+    #[inline(never)]
+    fn variable(&mut self, kind: VarDeclKind, is_exported: bool) -> Result<Ident, Fault> {
+        let token = self.token();
+        let mut name = self.bound_or_pattern()?;
+        name.ctxt = self.declare(kind, token)?;
+        if is_exported {
+            self.export(token)?;
+        }
+        Ok(name)
     }
 
     #[cycle(parser)]
     pub(crate) fn statement(&mut self, room: u32) -> Result<Nested<Stmt>, Fault> {
         match self.kind() {
-            Kind::LeftBrace => {
-                let block = self.block(room, ScopeKind::Block)?;
-                nest_stmt(Stmt::Block(block.node), block.levels)
-            }
-            Kind::Semicolon => Ok(self.empty()),
-            Kind::Var => {
-                let decl = self.declaration(room, false)?;
-                nest_stmt(Stmt::Decl(Decl::Var(decl.node)), decl.levels)
-            }
+            Kind::LeftBrace => self.block_stmt(room),
+            Kind::Semicolon => self.empty(),
+            Kind::Var => self.variable_stmt(room),
             Kind::If => self.branch(room),
             Kind::While => self.while_loop(room),
             Kind::Do => self.do_loop(room),
@@ -147,28 +192,49 @@ impl<'a> Parser<'a> {
             Kind::Throw => self.throw(room),
             Kind::Break | Kind::Continue => self.jump(),
             Kind::Name if matches!(self.next_kind(), Kind::Colon) => self.labeled(room),
-            Kind::With => Err(self.leave_out(Construct::With)),
-            Kind::Debugger => Err(self.leave_out(Construct::Debugger)),
-            Kind::Function | Kind::Let | Kind::Const => Err(self.refuse()),
+            Kind::With | Kind::Debugger | Kind::Function | Kind::Let | Kind::Const => {
+                self.no_statement()
+            }
             Kind::Import if !matches!(self.next_kind(), Kind::LeftParen | Kind::Dot) => {
-                Err(self.refuse())
+                self.no_statement()
             }
             _ => self.expression_stmt(room),
         }
     }
 
-    fn empty(&mut self) -> Nested<Stmt> {
+    /// Refuses what begins no statement.
+    #[inline(never)]
+    fn no_statement(&self) -> Result<Nested<Stmt>, Fault> {
+        Err(match self.kind() {
+            Kind::With => self.leave_out(Construct::With),
+            Kind::Debugger => self.leave_out(Construct::Debugger),
+            _ => self.refuse(),
+        })
+    }
+
+    #[inline(never)]
+    fn empty(&mut self) -> Result<Nested<Stmt>, Fault> {
         let start = self.start();
         self.bump();
         let span = self.span_from(start);
-        part(Stmt::Empty(EmptyStmt { span }), 1)
+        nest_stmt(Stmt::Empty(EmptyStmt { span }), 0)
     }
 
+    #[inline(never)]
     #[cycle(parser)]
     fn expression_stmt(&mut self, room: u32) -> Result<Nested<Stmt>, Fault> {
         let start = self.start();
         let expr = self.expression(inside(room)?)?;
         self.semicolon()?;
+        self.expression_stmt_of(start, expr)
+    }
+
+    #[inline(never)]
+    fn expression_stmt_of(
+        &self,
+        start: u32,
+        expr: Nested<Box<Expr>>,
+    ) -> Result<Nested<Stmt>, Fault> {
         let node = ExprStmt {
             span: self.span_from(start),
             expr: expr.node,
@@ -176,6 +242,7 @@ impl<'a> Parser<'a> {
         nest_stmt(Stmt::Expr(node), expr.levels)
     }
 
+    #[inline(never)]
     #[cycle(parser)]
     fn labeled(&mut self, room: u32) -> Result<Nested<Stmt>, Fault> {
         let token = self.token();
@@ -190,8 +257,18 @@ impl<'a> Parser<'a> {
         self.targets.push(target)?;
         let body = self.statement(inside(room)?)?;
         self.targets.pop(target);
+        self.labeled_of(token.start, label, body)
+    }
+
+    #[inline(never)]
+    fn labeled_of(
+        &self,
+        start: u32,
+        label: IdentName,
+        body: Nested<Stmt>,
+    ) -> Result<Nested<Stmt>, Fault> {
         let node = LabeledStmt {
-            span: self.span_from(token.start),
+            span: self.span_from(start),
             label,
             body: Box::new(self.alloc, body.node)?,
         };

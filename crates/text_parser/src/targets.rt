@@ -39,6 +39,7 @@ impl<'a> Targets<'a> {
         }
     }
 
+    #[inline(never)]
     pub(crate) fn push(&mut self, target: Target<'a>) -> Result<(), AllocError> {
         let Unnamed { loops, switches } = self.unnamed;
         match target {
@@ -51,6 +52,7 @@ impl<'a> Targets<'a> {
         Ok(())
     }
 
+    #[inline(never)]
     pub(crate) fn pop(&mut self, target: Target<'a>) {
         let Unnamed { loops, switches } = self.unnamed;
         match target {

@@ -206,6 +206,7 @@ fn first_below<'a>(
 }
 
 /// The same of a node that has a scope of its own, that of a function's parameters and body aside.
+#[inline(never)]
 #[cycle(captures)]
 fn first_in_scope<'a>(
     reach: Reach,
@@ -231,6 +232,7 @@ fn first_in_scope<'a>(
 }
 
 /// The same of nodes in a row, inside a scope that binds some names.
+#[inline(never)]
 #[cycle(captures)]
 fn first_inside<'a>(
     names: &[Name<'a>],
@@ -251,6 +253,7 @@ fn first_inside<'a>(
 }
 
 /// The same, where the scope is round all nodes but the first.
+#[inline(never)]
 #[cycle(captures)]
 #[tactic(auto, using(crate::proofs::First::first_falls, crate::proofs::First::rest_falls, crate::proofs::First::found_among, crate::proofs::First::goes_on, crate::proofs::First::ends))]
 fn first_behind<'a>(
@@ -279,6 +282,7 @@ fn first_behind<'a>(
 }
 
 /// The same, where the scope is round the second node alone.
+#[inline(never)]
 #[cycle(captures)]
 #[tactic(auto, using(crate::proofs::First::first_falls, crate::proofs::First::rest_falls, crate::proofs::First::found_among, crate::proofs::First::goes_on, crate::proofs::First::ends))]
 fn first_in_second<'a>(
@@ -307,6 +311,7 @@ fn first_in_second<'a>(
 }
 
 /// The same, where the scope is round the first node alone.
+#[inline(never)]
 #[cycle(captures)]
 #[tactic(auto, using(crate::proofs::First::first_falls, crate::proofs::First::rest_falls, crate::proofs::First::alone_falls, crate::proofs::First::found_among, crate::proofs::First::goes_on, crate::proofs::First::ends))]
 fn first_in_front<'a>(
@@ -336,6 +341,7 @@ fn first_in_front<'a>(
 }
 
 /// The same of the parameters and the body of a function, among all of its parts, inside the scope of its own name, if it has one.
+#[inline(never)]
 #[cycle(captures)]
 fn first_in_named<'a>(
     names: &[Name<'a>],
@@ -357,6 +363,7 @@ fn first_in_named<'a>(
 }
 
 /// The same of a method: its key stands outside.
+#[inline(never)]
 #[cycle(captures)]
 #[tactic(auto, using(crate::proofs::First::first_falls, crate::proofs::First::rest_falls, crate::proofs::First::found_among, crate::proofs::First::goes_on, crate::proofs::First::ends))]
 fn first_in_method<'a>(
@@ -386,6 +393,7 @@ fn first_in_method<'a>(
 
 /// The same of the parameters and the body of a function, among all of its parts: they are one scope, but beside a default the
 /// body has one of its own, inside that of the parameters (10.2.11).
+#[inline(always)]
 #[cycle(captures)]
 fn first_in_function<'a>(
     whole: Children<'a>,
@@ -409,6 +417,7 @@ fn first_in_function<'a>(
 }
 
 /// The same beside a default, given the names of the parameters and what stands in the body.
+#[inline(never)]
 #[cycle(captures)]
 fn first_beside_default<'a>(
     names: &[Name<'a>],

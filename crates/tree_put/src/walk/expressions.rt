@@ -10,9 +10,9 @@ use crate::walk::statements::put_body;
 use std::alloc::{AllocError, Global};
 use std::mem;
 use swc_ast::{
-    ArrowExpr, AssignExpr, AssignTarget, Atom, BlockStmtOrExpr, Expr, ExprOrSpread, Function, Ident,
-    IdentName, KeyValueProp, MemberExpr, MemberProp, MethodProp, Pat, Prop, PropName, PropOrSpread,
-    UnaryExpr, UnaryOp, UpdateExpr,
+    ArrowExpr, AssignExpr, AssignTarget, Atom, BlockStmtOrExpr, Expr, ExprOrSpread, Function,
+    Ident, IdentName, KeyValueProp, MemberExpr, MemberProp, MethodProp, Pat, Prop, PropName,
+    PropOrSpread, UnaryExpr, UnaryOp, UpdateExpr,
 };
 
 /// Walks an expression: what takes its place, or its parts.
@@ -125,6 +125,7 @@ pub fn put_boxed<P: Puts>(
     put_expr(alloc, rules, spot, e)
 }
 
+#[inline(never)]
 #[cycle(walk)]
 pub fn put_exprs<P: Puts>(
     alloc: Global,
@@ -139,6 +140,7 @@ pub fn put_exprs<P: Puts>(
     Ok(())
 }
 
+#[inline(never)]
 #[cycle(walk)]
 fn put_items<P: Puts>(
     alloc: Global,
@@ -171,6 +173,7 @@ fn put_item<P: Puts>(
 }
 
 /// Walks an operand, unless it is deleted.
+#[inline(never)]
 #[cycle(walk)]
 fn put_unary<P: Puts>(alloc: Global, rules: &mut P, n: &mut UnaryExpr) -> Result<(), AllocError>
     ensures { IfOk result (λ u. MakesParts P.puts (unary_tree expr_tree n.old) (P.state rules.old) (unary_tree expr_tree n.new) (P.state rules.new)) }
@@ -199,6 +202,7 @@ fn operand_spot(op: UnaryOp) -> Option<Spot>
     }
 }
 
+#[inline(never)]
 #[cycle(walk)]
 fn put_member<P: Puts>(alloc: Global, rules: &mut P, n: &mut MemberExpr) -> Result<(), AllocError>
     ensures { IfOk result (λ u. MakesParts P.puts (member_tree expr_tree n.old) (P.state rules.old) (member_tree expr_tree n.new) (P.state rules.new)) }
@@ -239,6 +243,7 @@ fn put_target<P: Puts>(alloc: Global, rules: &mut P, t: &mut AssignTarget) -> Re
     }
 }
 
+#[inline(never)]
 #[cycle(walk)]
 fn put_boxed_update<P: Puts>(
     alloc: Global,
@@ -258,6 +263,7 @@ fn put_update<P: Puts>(alloc: Global, rules: &mut P, n: &mut UpdateExpr) -> Resu
     Ok(())
 }
 
+#[inline(never)]
 #[cycle(walk)]
 fn put_boxed_assign<P: Puts>(
     alloc: Global,
@@ -308,6 +314,7 @@ pub fn put_option<P: Puts>(
     }
 }
 
+#[inline(never)]
 #[cycle(walk)]
 fn put_props<P: Puts>(
     alloc: Global,
@@ -366,6 +373,7 @@ fn put_prop<P: Puts>(alloc: Global, rules: &mut P, p: &mut Prop) -> Result<(), A
 }
 
 /// A property that is only a name becomes a key and a value, where there is one.
+#[inline(never)]
 fn put_shorthand<P: Puts>(
     alloc: Global,
     rules: &mut P,
@@ -385,6 +393,7 @@ fn put_shorthand<P: Puts>(
     }
 }
 
+#[inline(never)]
 #[cycle(walk)]
 fn put_key_value<P: Puts>(
     alloc: Global,
@@ -398,6 +407,7 @@ fn put_key_value<P: Puts>(
     Ok(())
 }
 
+#[inline(never)]
 #[cycle(walk)]
 fn put_key<P: Puts>(alloc: Global, rules: &mut P, k: &mut PropName) -> Result<(), AllocError>
     ensures { IfOk result (λ u. Goes P.puts (key_tree expr_tree) (P.state rules.old) k.old k.new (P.state rules.new)) }
@@ -413,6 +423,7 @@ fn put_key<P: Puts>(alloc: Global, rules: &mut P, k: &mut PropName) -> Result<()
     }
 }
 
+#[inline(never)]
 #[cycle(walk)]
 fn put_method<P: Puts>(alloc: Global, rules: &mut P, n: &mut MethodProp) -> Result<(), AllocError>
     ensures { IfOk result (λ u. Goes P.puts method_tree (P.state rules.old) n.old n.new (P.state rules.new)) }
@@ -425,6 +436,7 @@ fn put_method<P: Puts>(alloc: Global, rules: &mut P, n: &mut MethodProp) -> Resu
 }
 
 /// Walks a function whose scope is open.
+#[inline(never)]
 #[cycle(walk)]
 pub fn put_boxed_function<P: Puts>(
     alloc: Global,
@@ -468,6 +480,7 @@ fn put_param<P: Puts>(alloc: Global, rules: &mut P, p: &mut Pat) -> Result<(), A
     }
 }
 
+#[inline(never)]
 #[cycle(walk)]
 fn put_boxed_arrow<P: Puts>(
     alloc: Global,

@@ -14,6 +14,9 @@ decreases-arrow l = 30 * l.room + 22
 abbrev pub decreases-arrow_body : goal.decreases-arrow_body
 decreases-arrow_body l = 30 * l.room + 15
 
+abbrev pub decreases-arrow_params : goal.decreases-arrow_params
+decreases-arrow_params l = 30 * l.room + 14
+
 abbrev pub decreases-assignment : goal.decreases-assignment
 decreases-assignment l = 30 * l.room + 23
 
@@ -23,14 +26,26 @@ decreases-assignment_behind l = 30 * l.room + 22
 abbrev pub decreases-attempt : goal.decreases-attempt
 decreases-attempt l = 30 * l.room + 18
 
+abbrev pub decreases-attempt_behind : goal.decreases-attempt_behind
+decreases-attempt_behind l = 30 * l.room + 17
+
+abbrev pub decreases-behind_parentheses : goal.decreases-behind_parentheses
+decreases-behind_parentheses l = 30 * l.room + 23
+
 abbrev pub decreases-binary_behind : goal.decreases-binary_behind
 decreases-binary_behind l = 30 * l.room + 2
 
 abbrev pub decreases-block : goal.decreases-block
 decreases-block l = 30 * l.room + 13
 
+abbrev pub decreases-block_stmt : goal.decreases-block_stmt
+decreases-block_stmt l = 30 * l.room + 14
+
 abbrev pub decreases-body : goal.decreases-body
 decreases-body l = 30 * l.room + 14
+
+abbrev pub decreases-boxed_statement : goal.decreases-boxed_statement
+decreases-boxed_statement l = 30 * l.room + 1
 
 abbrev pub decreases-branch : goal.decreases-branch
 decreases-branch l = 30 * l.room + 18
@@ -44,11 +59,11 @@ decreases-cases l = 30 * l.room + 17
 abbrev pub decreases-choice_behind : goal.decreases-choice_behind
 decreases-choice_behind l = 30 * l.room + 1
 
+abbrev pub decreases-computed_member : goal.decreases-computed_member
+decreases-computed_member l = 30 * l.room + 1
+
 abbrev pub decreases-construction : goal.decreases-construction
 decreases-construction l = 30 * l.room + 18
-
-abbrev pub decreases-declaration : goal.decreases-declaration
-decreases-declaration l = 30 * l.room + 13
 
 abbrev pub decreases-declarator : goal.decreases-declarator
 decreases-declarator l = 30 * l.room + 11
@@ -68,6 +83,9 @@ decreases-expression_behind l = 30 * l.room + 1
 abbrev pub decreases-expression_stmt : goal.decreases-expression_stmt
 decreases-expression_stmt l = 30 * l.room + 18
 
+abbrev pub decreases-finalizer : goal.decreases-finalizer
+decreases-finalizer l = 30 * l.room + 16
+
 abbrev pub decreases-first_part : goal.decreases-first_part
 decreases-first_part l = 30 * l.room + 17
 
@@ -77,17 +95,20 @@ decreases-for_loop l = 30 * l.room + 18
 abbrev pub decreases-function : goal.decreases-function
 decreases-function l = 30 * l.room + 16
 
-abbrev pub decreases-function_decl : goal.decreases-function_decl
-decreases-function_decl l = 30 * l.room + 17
-
 abbrev pub decreases-function_expr : goal.decreases-function_expr
 decreases-function_expr l = 30 * l.room + 18
 
+abbrev pub decreases-function_stmt : goal.decreases-function_stmt
+decreases-function_stmt l = 30 * l.room + 18
+
 abbrev pub decreases-handler : goal.decreases-handler
-decreases-handler l = 30 * l.room + 17
+decreases-handler l = 30 * l.room + 16
 
 abbrev pub decreases-head : goal.decreases-head
 decreases-head l = 30 * l.room + 1
+
+abbrev pub decreases-item : goal.decreases-item
+decreases-item l = 30 * l.room + 1
 
 abbrev pub decreases-key : goal.decreases-key
 decreases-key l = 30 * l.room + 1
@@ -102,10 +123,7 @@ abbrev pub decreases-listed : goal.decreases-listed
 decreases-listed l = 30 * l.room + 24
 
 abbrev pub decreases-loop_body : goal.decreases-loop_body
-decreases-loop_body l = 30 * l.room + 1
-
-abbrev pub decreases-member_prop : goal.decreases-member_prop
-decreases-member_prop l = 30 * l.room + 1
+decreases-loop_body l = 30 * l.room + 2
 
 abbrev pub decreases-members_behind : goal.decreases-members_behind
 decreases-members_behind l = 30 * l.room + 19
@@ -137,6 +155,9 @@ decreases-primary l = 30 * l.room + 20
 abbrev pub decreases-property : goal.decreases-property
 decreases-property l = 30 * l.room + 17
 
+abbrev pub decreases-right_operand : goal.decreases-right_operand
+decreases-right_operand l = 30 * l.room + 1
+
 abbrev pub decreases-spread : goal.decreases-spread
 decreases-spread l = 30 * l.room + 1
 
@@ -158,11 +179,14 @@ decreases-throw l = 30 * l.room + 18
 abbrev pub decreases-unary : goal.decreases-unary
 decreases-unary l = 30 * l.room + 20
 
+abbrev pub decreases-update_in_front : goal.decreases-update_in_front
+decreases-update_in_front l = 30 * l.room + 1
+
+abbrev pub decreases-value_behind : goal.decreases-value_behind
+decreases-value_behind l = 30 * l.room + 1
+
+abbrev pub decreases-variable_stmt : goal.decreases-variable_stmt
+decreases-variable_stmt l = 30 * l.room + 14
+
 abbrev pub decreases-while_loop : goal.decreases-while_loop
 decreases-while_loop l = 30 * l.room + 18
-
-abbrev pub decreases-item : goal.decreases-item
-decreases-item l = 30 * l.room + 1
-
-abbrev pub decreases-right_operand : goal.decreases-right_operand
-decreases-right_operand l = 30 * l.room + 1
