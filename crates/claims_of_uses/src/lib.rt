@@ -11,9 +11,8 @@ ghost use Rattle.swc_ast.specs.declared.Span.{Span};
 ghost use Rattle.swc_ast.specs.declared.errors.PassError.TheVariants.{OutOfMemory};
 ghost use Rattle.dce_rules.specs.Uses.{free_to_go, is_unread};
 ghost use Rattle.dce_uses.specs.Items.{IsUnused};
-ghost use Rattle.dce_uses.specs.Said.{AllSaid, NoneFree, Says};
+ghost use Rattle.dce_uses.specs.Said.{AllSaid, Grows, IsWithin, NoneFree, Says, register_of};
 ghost use Rattle.dce_uses.specs.Tables as tables;
-ghost use Rattle.dce_uses.specs.Tables.{Extends, names_of};
 
 use dce_uses::{Said, Speaks, Uses};
 use std::alloc::{AllocError, Global};
@@ -59,28 +58,29 @@ pub fn is_abroad(uses: &Uses, name: &Ident) -> bool
 }
 
 /// `Uses::said`
-pub fn said<T: StmtLike>(uses: &mut Uses, alloc: Global, item: &T) -> Result<Said, AllocError>
+pub fn said<T: StmtLike>(uses: &mut Uses, item: &T) -> Result<Said, AllocError>
     requires { IsUnused uses.old }
     ensures unused { OnOk result (IsUnused uses.new) }
-    ensures more { OnOk result (Extends (names_of uses.old) (names_of uses.new)) }
-    ensures says { IfOk result (λ s. Says (names_of uses.new) s (item_tree (T.item item.now))) }
+    ensures grows { OnOk result (Grows (register_of uses.old) (register_of uses.new)) }
+    ensures says { IfOk result (λ s. Says (register_of uses.new) s (item_tree (T.item item.now))) }
 {
-    uses.said(alloc, item)
+    uses.said(item)
 }
 
 /// `Uses::tell`
 pub fn tell<T: Speaks>(uses: &mut Uses, items: &[T]) -> Result<(), PassError>
-    requires said { AllSaid (names_of uses.old) T.item T.tells items.now }
+    requires said { AllSaid (register_of uses.old) T.item T.tells items.now }
     ensures tells { OnOk result ((ss : List Span) → tables.Tells uses.new (node trees.Module ss (list_trees (λ x. item_tree (T.item x)) items.now))) }
-    ensures more { OnOk result (Extends (names_of uses.old) (names_of uses.new)) }
+    ensures grows { OnOk result (Grows (register_of uses.old) (register_of uses.new)) }
     ensures memory { IfErr result (λ e. e ≡ OutOfMemory) }
 {
     uses.tell(items)
 }
 
 /// `Uses::leaves`
-pub fn leaves(uses: &Uses, said: &Said) -> bool
-    ensures { IsTrue result → (t : trees.Tree) → Says (names_of uses.now) said.now t → NoneFree uses.now t }
+pub fn leaves(uses: &Uses, said: Said) -> bool
+    requires { IsWithin (register_of uses.now) said }
+    ensures { IsTrue result → (t : trees.Tree) → Says (register_of uses.now) said t → NoneFree uses.now t }
 {
     uses.leaves(said)
 }

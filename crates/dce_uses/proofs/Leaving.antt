@@ -8,7 +8,7 @@ use Rattle.dce_uses.specs.declared.said.Row.{Row}
 use Rattle.dce_uses.specs.declared.said.Said.{Said}
 use Rattle.dce_uses.specs.declared.uses.Uses.{Uses}
 use Rattle.dce_uses.specs.Noted.{at_top}
-use Rattle.dce_uses.specs.Said.{NoneFree, Says, rows_say}
+use Rattle.dce_uses.specs.Said.{NoneFree, Says, register_of, rows_of, rows_say}
 use Rattle.dce_uses.specs.Tables.{is_free, names_of}
 use Rattle.dce_uses.proofs.Adding.{or_false}
 use Rattle.dce_uses.proofs.Telling.{declarations}
@@ -18,10 +18,10 @@ abbrev pub FreeLeft : Uses → List Row → List Row → Type 0
 FreeLeft u all left = (x : Name) → is_free u x ≡ true → rows_say (names_of u) all fact.Declared x ≡ true → rows_say (names_of u) left fact.Declared x ≡ true
 
 -- where none is left, none is free
-pub none_left : (u : Uses) (s : Said) (left : List Row) → length left < 1 → FreeLeft u s.rows.items left → (t : Tree) → Says (names_of u) s t → NoneFree u t
+pub none_left : (u : Uses) (s : Said) (left : List Row) → length left < 1 → FreeLeft u (rows_of (register_of u) s) left → (t : Tree) → Says (register_of u) s t → NoneFree u t
 none_left u s left short h t says x declared = by (is_free u x) refl
   where
-    told : rows_say (names_of u) s.rows.items fact.Declared x ≡ true
+    told : rows_say (names_of u) (rows_of (register_of u) s) fact.Declared x ≡ true
     told =
         says.facts fact.Declared x ∙ or_false _ ∙ declarations x at_top (node (label_of t) [] (children_of t)) ∙ opened t ∙ declared
       where

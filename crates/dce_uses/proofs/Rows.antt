@@ -1,5 +1,5 @@
 -- Rows that are noted, and rows that are taken.
-use Rattle.std.proofs.Common.{◌≡◌, ℕ, ◌<◌, ◌≤◌, Bool, true, false, ◌||◌, ◌&&◌, List, [], ◌∷◌, ◌++◌, length, vec_len, position, slice_index_or, refl, sym, ap, ap₂, subst, ◌∙◌, arith}
+use Rattle.std.proofs.Common.{◌≡◌, ℕ, ◌<◌, ◌≤◌, Bool, true, false, ◌||◌, ◌&&◌, List, [], ◌∷◌, ◌++◌, length, vec_len, position, slice_index_or, append-nil, append_assoc, refl, sym, ap, ap₂, subst, ◌∙◌, arith}
 use Rattle.std.specs.Prelude.{if◌then◌else◌, option_map, unwrap_or, nat_eq}
 use Rattle.std.proofs.lemmas.Bool.{or_parts, not-true, eqb-true, eq-eqb, false_from_ne_true, false≢true}
 use Rattle.std.proofs.lemmas.Option.{slice_get_read}
@@ -61,6 +61,21 @@ pub record Taking (u v : Table) (rs : List Row) : Type 0 where
   pub numbered : IsNumbered v
   pub numbers : AreNumbered u.names rs
   pub facts : (f : Fact) (x : Name) → (fact_of v f x || rows_say u.names rs f x) ≡ fact_of u f x
+
+-- the same of rows behind others
+pub record TakingBehind (u v : Table) (old new : List Row) : Type 0 where
+  pub more : List Row
+  pub is : new ≡ old ++ more
+  pub taking : Taking u v more
+
+pub one_behind : (u v w : Table) (old rs qs : List Row) (r : Row) → qs ≡ rs ++ r ∷ [] → (h : TakingBehind u v old rs) → (Taking u v h.more → Taking u w (h.more ++ r ∷ [])) → TakingBehind u w old qs
+one_behind u v w old rs qs r pushed h go = record { more = h.more ++ r ∷ []; is = pushed ∙ ap (λ ps. ps ++ r ∷ []) h.is ∙ append_assoc old h.more (r ∷ []); taking = go h.taking }
+
+pub none_behind : (u v w : Table) (old rs : List Row) → (h : TakingBehind u v old rs) → (Taking u v h.more → Taking u w h.more) → TakingBehind u w old rs
+none_behind u v w old rs h go = record { more = h.more; is = h.is; taking = go h.taking }
+
+pub none_taken : (u : Table) (old : List Row) → Taking u u [] → TakingBehind u u old old
+none_taken u old h = record { more = []; is = sym (append-nil old); taking = h }
 
 -- A table where nothing is noted any more at the last number that was touched.
 record Emptied (v w : Table) (n : ℕ) : Type 0 where

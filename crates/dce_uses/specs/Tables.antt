@@ -45,9 +45,9 @@ pub record IsNumbered (u : Table) : Type 0 where
   pub within : length u.tallies.items ≤ length u.names
   pub touched : (f : Fact) (n : ℕ) → fact_at u.tallies.items f n ≡ true → has_number n u.touched.items ≡ true
 
--- The second list of names is the first with more behind it.
-pub record Extends (xs ys : List Name) : Type 0 where
-  pub more : List Name
+-- The second list is the first with more behind it.
+pub record Extends {X : Type 0} (xs ys : List X) : Type 0 where
+  pub more : List X
   pub is : ys ≡ xs ++ more
 
 -- the names of a table, in the order of their numbers

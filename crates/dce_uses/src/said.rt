@@ -1,5 +1,5 @@
 //! What items of a module say of names.
-ghost use Rattle.std.specs.Prelude.{◌≡◌, None, Option, option_copied};
+ghost use Rattle.std.specs.Prelude.{◌≡◌, None, Option};
 ghost use Rattle.dce_uses.specs.declared.said.Said as said_of;
 
 use crate::tally::Tally;
@@ -13,10 +13,12 @@ pub(crate) struct Row {
     pub(crate) tally: Tally,
 }
 
-/// What an item of a module says of names, each by its number in a table of names.
-#[derive(Drop)]
+/// What an item of a module says of names: where its rows stand among those of `Uses`, and whether it is a default export
+/// without a name.
+#[derive(Clone, Copy)]
 pub struct Said {
-    pub(crate) rows: Vec<Row>,
+    pub(crate) start: usize,
+    pub(crate) end: usize,
     pub(crate) exports_default: bool,
 }
 
@@ -26,15 +28,15 @@ pub trait Speaks: StmtLike {
     ghost tells: { Self → Option said_of.Said };
 
     /// What it says, if that is known.
-    fn said(&self) -> Option<&Said>
-        ensures { option_copied result ≡ tells self.now };
+    fn said(&self) -> Option<Said>
+        ensures { result ≡ tells self.now };
 }
 
 /// An item of which nothing is known.
 impl Speaks for ModuleItem {
     ghost tells = { λ _. None };
 
-    fn said(&self) -> Option<&Said> {
+    fn said(&self) -> Option<Said> {
         None
     }
 }

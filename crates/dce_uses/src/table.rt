@@ -4,7 +4,7 @@ ghost use Rattle.swc_ast.specs.Parts.{ident_name};
 ghost use Rattle.swc_ast.specs.Scope.{has_name};
 ghost use Rattle.swc_names.specs.Ids.{optional};
 ghost use Rattle.dce_uses.specs.Noted.{is_hiding};
-ghost use Rattle.dce_uses.specs.Said.{AreNumbered, Takes, row_says, rows_say};
+ghost use Rattle.dce_uses.specs.Said.{AreNumbered, TakesBehind, row_says, rows_say};
 ghost use Rattle.dce_uses.specs.Tables.{IsBlank, IsNumbered, Notes, Numbers, Restores, Touches, fact_at, fact_of, holds};
 ghost use Rattle.dce_uses.specs.declared.tally.Fact as facts;
 
@@ -59,7 +59,7 @@ impl Table {
     }
 
     /// The number of a name, a new one where it has none.
-    #[inline(always)]
+    #[inline(never)]
     fn number(&mut self, name: &Ident) -> Result<usize, AllocError>
         ensures { IfOk result (λ n. Numbers self.old self.new (ident_name name.now) n) }
     {
@@ -131,13 +131,12 @@ impl Table {
         self.touched.clear();
     }
 
-    /// What was noted, as rows. Nothing of it stays noted.
-    pub(crate) fn take_rows(&mut self, alloc: Global) -> Result<Vec<Row>, AllocError>
+    /// Puts what was noted behind rows, as rows. Nothing of it stays noted.
+    pub(crate) fn take_rows(&mut self, rows: &mut Vec<Row>) -> Result<(), AllocError>
         requires { IsNumbered self.old }
         ensures blank { OnOk result (IsBlank self.new) }
-        ensures rows { IfOk result (λ rs. Takes self.old self.new rs.items) }
+        ensures rows { OnOk result (TakesBehind self.old self.new rows.old.items rows.new.items) }
     {
-        let mut rows = Vec::with_capacity(alloc, self.touched.len())?;
         while let Some(number) = self.touched.pop() {
             if number < self.tallies.len() {
                 let tally = self.tallies[number];
@@ -147,7 +146,7 @@ impl Table {
                 }
             }
         }
-        Ok(rows)
+        Ok(())
     }
 
     /// Notes what a row tells.

@@ -1,5 +1,5 @@
 //! How the names of a tree are used.
-ghost use Rattle.std.specs.Prelude.{◌≡◌, true, false, List, [], IfSome, IfOk, IfErr, OnOk, IsTrue};
+ghost use Rattle.std.specs.Prelude.{◌≡◌, true, false, List, [], IfSome, IfOk, IfErr, OnOk, IsTrue, nat_lt, vec_len, ◌/◌};
 ghost use Rattle.swc_ast.specs.Modules.{item_tree, module_tree, script_tree};
 ghost use Rattle.swc_ast.specs.Parts.{ident_name, list_trees};
 ghost use Rattle.swc_ast.specs.Scope.{default_name};
@@ -11,8 +11,8 @@ ghost use Rattle.tree_visit.specs.Kinds.{kind_label};
 ghost use Rattle.tree_visit.specs.Nodes.{node_tree, children_forest};
 ghost use Rattle.dce_uses.specs.Tables as tables;
 ghost use Rattle.dce_uses.specs.Items.{IsUnused, NotesItem, NotesTree};
-ghost use Rattle.dce_uses.specs.Said.{Adds, AllSaid, AreNumbered, NoneFree, Says, row_says};
-ghost use Rattle.dce_uses.specs.Tables.{Extends, names_of};
+ghost use Rattle.dce_uses.specs.Said.{Adds, AllSaid, AreNumbered, Grows, IsWithin, NoneFree, Says, register_of, row_says, rows_of};
+ghost use Rattle.dce_uses.specs.Tables.{names_of};
 ghost use Rattle.dce_uses.specs.declared.tally.Fact.TheVariants as fact;
 
 use crate::exports::is_nameless;
@@ -31,6 +31,10 @@ use tree_visit::{Node, Opened};
 pub struct Uses {
     table: Table,
     exports_default: bool,
+    /// What items said.
+    rows: Vec<Row>,
+    /// How many of these rows were noted, since all was forgotten.
+    told: usize,
 }
 
 /// Whether a name is that of a default export that has no other.
@@ -48,12 +52,15 @@ impl Uses {
         Uses {
             table: Table::new(alloc),
             exports_default: false,
+            rows: Vec::new(alloc),
+            told: 0,
         }
     }
 
     /// Notes how an item of a module uses names.
     fn note_item(&mut self, item: Opened<'_>) -> Result<(), AllocError>
-        ensures { OnOk result (NotesItem self.old self.new (kind_label item.entry.kind) (children_forest item.entry.children)) }
+        ensures notes { OnOk result (NotesItem self.old self.new (kind_label item.entry.kind) (children_forest item.entry.children)) }
+        ensures rows { self.new.rows ≡ self.old.rows }
     {
         self.table.count_opened(item, Place::top())?;
         self.table.note_exported(item.kind, item.children)?;
@@ -64,43 +71,58 @@ impl Uses {
     /// Forgets what was noted. Names keep their numbers.
     pub fn forget(&mut self)
         ensures unused { IsUnused self.new }
-        ensures names { names_of self.new ≡ names_of self.old }
+        ensures register { register_of self.new ≡ register_of self.old }
     {
         self.table.forget();
         self.exports_default = false;
+        self.told = 0;
+    }
+
+    /// Whether most rows are of what no item says any more: seven eighths of them weren't noted.
+    pub fn is_crowded(&self) -> bool
+        ensures { result ≡ nat_lt self.now.told (vec_len self.now.rows / 8) }
+    {
+        self.told < self.rows.len() / 8
     }
 
     /// What an item says by itself. Nothing of it stays noted.
-    pub fn said<T: StmtLike>(&mut self, alloc: Global, item: &T) -> Result<Said, AllocError>
+    pub fn said<T: StmtLike>(&mut self, item: &T) -> Result<Said, AllocError>
         requires { IsUnused self.old }
         ensures unused { OnOk result (IsUnused self.new) }
-        ensures more { OnOk result (Extends (names_of self.old) (names_of self.new)) }
-        ensures says { IfOk result (λ s. Says (names_of self.new) s (item_tree (T.item item.now))) }
+        ensures grows { OnOk result (Grows (register_of self.old) (register_of self.new)) }
+        ensures says { IfOk result (λ s. Says (register_of self.new) s (item_tree (T.item item.now))) }
     {
         self.note_item(open_item(item))?;
         let exports_default = self.exports_default;
         self.exports_default = false;
-        let rows = self.table.take_rows(alloc)?;
+        let start = self.rows.len();
+        self.table.take_rows(&mut self.rows)?;
         Ok(Said {
-            rows,
+            start,
+            end: self.rows.len(),
             exports_default,
         })
     }
 
     /// Notes what an item says.
-    fn add(&mut self, said: &Said) -> Result<(), AllocError>
-        requires { AreNumbered (names_of self.old) said.now.rows.items }
-        ensures { OnOk result (Adds self.old self.new said.now) }
+    fn add(&mut self, said: Said) -> Result<(), AllocError>
+        requires within { IsWithin (register_of self.old) said }
+        requires numbers { AreNumbered (names_of self.old) (rows_of (register_of self.old) said) }
+        ensures adds { OnOk result (Adds self.old self.new said) }
+        ensures rows { self.new.rows ≡ self.old.rows }
     {
-        self.table.add_rows(&said.rows)?;
+        let rows = &self.rows[said.start..said.end];
+        self.told = self.told.saturating_add(rows.len());
+        self.table.add_rows(rows)?;
         self.exports_default = self.exports_default | said.exports_default;
         Ok(())
     }
 
     /// Notes what an item says, by what is known of it or by a count.
     fn add_item<T: Speaks>(&mut self, item: &T) -> Result<(), AllocError>
-        requires { IfSome (T.tells item.now) (λ s. Says (names_of self.old) s (item_tree (T.item item.now))) }
-        ensures { OnOk result (NotesTree self.old self.new (item_tree (T.item item.now))) }
+        requires { IfSome (T.tells item.now) (λ s. Says (register_of self.old) s (item_tree (T.item item.now))) }
+        ensures notes { OnOk result (NotesTree self.old self.new (item_tree (T.item item.now))) }
+        ensures rows { self.new.rows ≡ self.old.rows }
     {
         match item.said() {
             Some(said) => self.add(said),
@@ -110,9 +132,9 @@ impl Uses {
 
     /// Notes what the items of a module say, by what is known of them or by a count. Refuses where memory is refused.
     pub fn tell<T: Speaks>(&mut self, items: &[T]) -> Result<(), PassError>
-        requires said { AllSaid (names_of self.old) T.item T.tells items.now }
+        requires said { AllSaid (register_of self.old) T.item T.tells items.now }
         ensures tells { OnOk result ((ss : List Span) → tables.Tells self.new (node trees.Module ss (list_trees (λ x. item_tree (T.item x)) items.now))) }
-        ensures more { OnOk result (Extends (names_of self.old) (names_of self.new)) }
+        ensures grows { OnOk result (Grows (register_of self.old) (register_of self.new)) }
         ensures memory { IfErr result (λ e. e ≡ OutOfMemory) }
     {
         self.forget();
@@ -207,10 +229,11 @@ impl Uses {
 
     /// Whether the tree shaker has nothing to do at an item that it left once, by what the item says: no name that it declares
     /// is free, and each that it writes is read, or declared nowhere.
-    pub fn leaves(&self, said: &Said) -> bool
-        ensures { IsTrue result → (t : trees.Tree) → Says (names_of self.now) said.now t → NoneFree self.now t }
+    pub fn leaves(&self, said: Said) -> bool
+        requires { IsWithin (register_of self.now) said }
+        ensures { IsTrue result → (t : trees.Tree) → Says (register_of self.now) said t → NoneFree self.now t }
     {
-        let mut left: &[Row] = &said.rows;
+        let mut left: &[Row] = &self.rows[said.start..said.end];
         while let [row, rest @ ..] = left {
             if !self.leaves_row(row) {
                 return false;

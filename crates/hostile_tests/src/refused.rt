@@ -105,7 +105,10 @@ fn the_simplifier_is_refused_and_runs_again(rt: HostRuntime) -> Result<(), Fail>
             "import {a} from 'm'; import 'n'; f();",
             "import 'm';\nimport 'n';\nf();\n",
         ),
-        ("function a(){ b(); } function b(){ b(); } g();", "g();\n"),
+        (
+            "function a(){ b(); } function b(){ c(); } function c(){ d(); } function d(){ d(); } g();",
+            "g();\n",
+        ),
     ];
     tries(&rt, alloc, &mut simplifier(mark, Config::new(alloc)), &rows)
 }

@@ -1,3 +1,4 @@
 pub mod Held
 pub mod Rests
 pub mod Trees
+pub mod Cleared

@@ -11,7 +11,7 @@ use Rattle.swc_expr.specs.Simplifies.{simplify_pass}
 use Rattle.branch_rules.specs.Removes.{remove_pass}
 use Rattle.dce_rules.specs.Shakes.{Shaker, shake_pass}
 use Rattle.dce_rules.specs.Uses.{declared_in}
-use Rattle.dce_uses.specs.Said.{Says}
+use Rattle.dce_uses.specs.Said.{Register, Says}
 use Rattle.round_units.specs.declared.unit.Unit.{Unit}
 
 -- a walk by the pass leaves it as it is
@@ -34,9 +34,9 @@ unknown x = record { item = x; simplified = None; removed = None; settled = fals
 abbrev pub Known : Unit → Type 0
 Known u = IfSome u.simplified (λ c. Rests (simplify_pass (context_number c)) (item_tree u.item)) × (IfSome u.removed (λ c. Rests (remove_pass (context_number c)) (item_tree u.item)) × (IsTrue u.settled → Settles (item_tree u.item)))
 
--- what it says of names, if that is known, by the numbers that names have
-abbrev pub SaidOf : List Name → Unit → Type 0
-SaidOf names u = IfSome u.said (λ s. Says names s (item_tree u.item))
+-- what it says of names, if that is known
+abbrev pub SaidOf : Register → Unit → Type 0
+SaidOf g u = IfSome u.said (λ s. Says g s (item_tree u.item))
 
 -- the items of units
 abbrev pub items_in : List Unit → List ModuleItem
@@ -46,5 +46,5 @@ items_in us = map (λ u. u.item) us
 abbrev pub AllKnown : List Unit → Type 0
 AllKnown us = All Known us
 
-abbrev pub AllSay : List Name → List Unit → Type 0
-AllSay names us = All (SaidOf names) us
+abbrev pub AllSay : Register → List Unit → Type 0
+AllSay g us = All (SaidOf g) us

@@ -1,23 +1,20 @@
 //! An item of a module, and what is known of it.
-ghost use Rattle.std.specs.Prelude.{◌≡◌, IfOk, OnOk, IsTrue, List, None, Some, refl, ⊤};
+ghost use Rattle.std.specs.Prelude.{◌≡◌, IfOk, OnOk, IsTrue, None, Some, refl};
 ghost use Rattle.swc_ast.specs.Modules.{item_tree};
-ghost use Rattle.swc_ast.specs.Tree.{Name};
 ghost use Rattle.swc_ast.specs.declared.modules.ModuleItem.TheVariants as items;
 ghost use Rattle.swc_utils.specs.Globals.{unresolved};
-ghost use Rattle.tree_walk.specs.Pass.{Pass};
 ghost use Rattle.tree_walk.specs.Walks.{Made};
 ghost use Rattle.swc_expr.specs.Simplifies.{simplify_pass};
 ghost use Rattle.branch_rules.specs.Removes.{remove_pass};
 ghost use Rattle.dce_rules.specs.Shakes.{shake_pass};
 ghost use Rattle.dce_code.specs.Knowledge.{shaker};
 ghost use Rattle.dce_uses.specs.Items.{IsUnused};
-ghost use Rattle.dce_uses.specs.Said.{NoneFree};
-ghost use Rattle.dce_uses.specs.Tables.{Extends, names_of};
+ghost use Rattle.dce_uses.specs.Said.{Grows, NoneFree, Register, register_of};
+ghost use Rattle.round_units.specs.Cleared.{ItemCleared};
 ghost use Rattle.round_units.specs.Rests.{Known, SaidOf, unknown};
-ghost use Rattle.round_units.specs.declared.unit.Unit as unit_of;
 
 use dce_uses::{Said, Speaks, Uses};
-use std::alloc::{AllocError, Global};
+use std::alloc::AllocError;
 use stmt_like::StmtLike;
 use swc_ast::{ModuleDecl, ModuleItem, Stmt, SyntaxContext};
 use swc_branch::BranchRules;
@@ -37,53 +34,6 @@ pub struct Unit {
     settled: bool,
     /// What it says of names.
     said: Option<Said>,
-}
-
-/// A pass over units.
-pub(crate) trait Step {
-    ghost pass: { Self → Pass };
-
-    /// What it takes for known of a unit.
-    ghost asks: { Self → unit_of.Unit → Type 0 };
-
-    /// Walks the item of a unit, unless the pass is known to leave it. Returns whether it changed.
-    fn step(&self, unit: &mut Unit) -> Result<bool, AllocError>
-        requires known { Known unit.old }
-        requires asked { asks self.now unit.old }
-        ensures made { IfOk result (λ c. Made (pass self.now) (item_tree unit.old.item) (item_tree unit.new.item) c) }
-        ensures known { OnOk result (Known unit.new) }
-        ensures asked { OnOk result (asks self.now unit.new) }
-        ensures said { OnOk result ((names : List Name) → SaidOf names unit.old → SaidOf names unit.new) };
-}
-
-impl Step for ExprRules {
-    ghost pass = { λ r. simplify_pass (unresolved r.ctx) };
-
-    ghost asks = { λ _ _. ⊤ };
-
-    fn step(&self, unit: &mut Unit) -> Result<bool, AllocError> {
-        unit.simplify(self)
-    }
-}
-
-impl Step for BranchRules {
-    ghost pass = { λ r. remove_pass (unresolved r.ctx) };
-
-    ghost asks = { λ _ _. ⊤ };
-
-    fn step(&self, unit: &mut Unit) -> Result<bool, AllocError> {
-        unit.remove(self)
-    }
-}
-
-impl<'a> Step for ShakeRules<'a> {
-    ghost pass = { λ r. shake_pass (shaker r.known) };
-
-    ghost asks = { λ r u. SaidOf (names_of r.known.uses.now) u };
-
-    fn step(&self, unit: &mut Unit) -> Result<bool, AllocError> {
-        unit.shake(self)
-    }
 }
 
 /// Whether it is known of these unresolved names.
@@ -125,18 +75,18 @@ impl Unit {
     }
 
     /// Notes what it says of names, unless that is known.
-    pub(crate) fn say(&mut self, alloc: Global, uses: &mut Uses) -> Result<(), AllocError>
+    pub(crate) fn say(&mut self, uses: &mut Uses) -> Result<(), AllocError>
         requires unused { IsUnused uses.old }
         requires known { Known self.old }
-        requires said { SaidOf (names_of uses.old) self.old }
+        requires said { SaidOf (register_of uses.old) self.old }
         ensures unused { OnOk result (IsUnused uses.new) }
-        ensures more { OnOk result (Extends (names_of uses.old) (names_of uses.new)) }
+        ensures grows { OnOk result (Grows (register_of uses.old) (register_of uses.new)) }
         ensures item { OnOk result (self.new.item ≡ self.old.item) }
         ensures known { OnOk result (Known self.new) }
-        ensures said { OnOk result (SaidOf (names_of uses.new) self.new) }
+        ensures said { OnOk result (SaidOf (register_of uses.new) self.new) }
     {
         if self.said.is_none() {
-            self.said = Some(uses.said(alloc, &self.item)?);
+            self.said = Some(uses.said(&self.item)?);
         }
         Ok(())
     }
@@ -146,7 +96,7 @@ impl Unit {
         requires known { Known self.old }
         ensures made { IfOk result (λ c. Made (R.pass rules.now) (item_tree self.old.item) (item_tree self.new.item) c) }
         ensures known { OnOk result (Known self.new) }
-        ensures said { OnOk result ((names : List Name) → SaidOf names self.old → SaidOf names self.new) }
+        ensures said { OnOk result ((g : Register) → SaidOf g self.old → SaidOf g self.new) }
     {
         let changed = walk_module_item(rules, &mut self.item)?;
         if changed {
@@ -163,7 +113,7 @@ impl Unit {
         requires known { Known self.old }
         ensures made { IfOk result (λ c. Made (simplify_pass (unresolved rules.now.ctx)) (item_tree self.old.item) (item_tree self.new.item) c) }
         ensures known { OnOk result (Known self.new) }
-        ensures said { OnOk result ((names : List Name) → SaidOf names self.old → SaidOf names self.new) }
+        ensures said { OnOk result ((g : Register) → SaidOf g self.old → SaidOf g self.new) }
     {
         let context = rules.ctx.unresolved_ctxt;
         if is_known(self.simplified, context) {
@@ -181,7 +131,7 @@ impl Unit {
         requires known { Known self.old }
         ensures made { IfOk result (λ c. Made (remove_pass (unresolved rules.now.ctx)) (item_tree self.old.item) (item_tree self.new.item) c) }
         ensures known { OnOk result (Known self.new) }
-        ensures said { OnOk result ((names : List Name) → SaidOf names self.old → SaidOf names self.new) }
+        ensures said { OnOk result ((g : Register) → SaidOf g self.old → SaidOf g self.new) }
     {
         let context = rules.ctx.unresolved_ctxt;
         if is_known(self.removed, context) {
@@ -194,25 +144,47 @@ impl Unit {
         Ok(changed)
     }
 
+    /// Walks the item by the expression simplifier and then by the remover, and notes what it says of names then.
+    pub(crate) fn clear(
+        &mut self,
+        expressions: &ExprRules,
+        branches: &BranchRules,
+        uses: &mut Uses,
+    ) -> Result<bool, AllocError>
+        requires unused { IsUnused uses.old }
+        requires known { Known self.old }
+        requires said { SaidOf (register_of uses.old) self.old }
+        ensures cleared { IfOk result (λ c. ItemCleared (unresolved expressions.now.ctx) (unresolved branches.now.ctx) self.old.item self.new.item c) }
+        ensures unused { OnOk result (IsUnused uses.new) }
+        ensures grows { OnOk result (Grows (register_of uses.old) (register_of uses.new)) }
+        ensures known { OnOk result (Known self.new) }
+        ensures said { OnOk result (SaidOf (register_of uses.new) self.new) }
+    {
+        let simplified = self.simplify(expressions)?;
+        let removed = self.remove(branches)?;
+        self.say(uses)?;
+        Ok(simplified | removed)
+    }
+
     /// Whether the tree shaker left it, and nothing is to do at it now, by what it says of names.
     fn is_left(&self, uses: &Uses) -> bool
-        requires { SaidOf (names_of uses.now) self.now }
+        requires { SaidOf (register_of uses.now) self.now }
         ensures settled { IsTrue result → IsTrue self.now.settled }
         ensures free { IsTrue result → NoneFree uses.now (item_tree self.now.item) }
     {
-        match &self.said {
+        match self.said {
             None => false,
             Some(said) => self.settled && uses.leaves(said),
         }
     }
 
     /// Walks the item by the tree shaker, unless that is known to leave it.
-    fn shake(&mut self, rules: &ShakeRules<'_>) -> Result<bool, AllocError>
+    pub(crate) fn shake(&mut self, rules: &ShakeRules<'_>) -> Result<bool, AllocError>
         requires known { Known self.old }
-        requires said { SaidOf (names_of rules.now.known.uses.now) self.old }
+        requires said { SaidOf (register_of rules.now.known.uses.now) self.old }
         ensures made { IfOk result (λ c. Made (shake_pass (shaker rules.now.known)) (item_tree self.old.item) (item_tree self.new.item) c) }
         ensures known { OnOk result (Known self.new) }
-        ensures said { OnOk result ((names : List Name) → SaidOf names self.old → SaidOf names self.new) }
+        ensures said { OnOk result ((g : Register) → SaidOf g self.old → SaidOf g self.new) }
     {
         if self.is_left(rules.known.uses) {
             return Ok(false);
@@ -268,7 +240,7 @@ impl StmtLike for Unit {
 impl Speaks for Unit {
     ghost tells = { λ u. u.said };
 
-    fn said(&self) -> Option<&Said> {
-        self.said.as_ref()
+    fn said(&self) -> Option<Said> {
+        self.said
     }
 }

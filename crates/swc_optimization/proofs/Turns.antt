@@ -34,13 +34,17 @@ more_on : {A : Tree → Tree → Type 0} {t v u : Tree} {n : ℕ} (c : Bool) →
 more_on true s a d = round_on true refl s a d
 more_on false s a d = round_last false refl s a d
 
--- what two passes in a row tell together
+-- what two passes in a row answer
+pub cleared_as : (m k : Mark) (t v u : Tree) → Simplified (mark_number m) t v → Removed (mark_number k) v u → Cleared m k t u
+cleared_as m k t v u a b = record { simplified = v; simplifies = a; removes = b }
+
+-- and what they tell together
 pub cleared_tells : (m k : Mark) (c d : Bool) (t v u : Tree) → Simplified (mark_number m) t v → TellsChange c t v → Removed (mark_number k) v u → TellsChange d v u → TellsChange (c || d) t u
 cleared_tells m k c d t v u a e b f = falls_tells (c || d) t u (falls_on c d t v u (falls (simplify_lawful m) refl c t v a e) (falls (remove_lawful k) refl d v u b f))
 
 module _ (told : Told) where
   -- two passes in a row rest where they changed nothing
-  cleared_rests : (t u : Tree) → Cleared told t u → u ≡ t → AtRest told t
+  cleared_rests : (t u : Tree) → Cleared told.mark told.mark t u → u ≡ t → AtRest told t
   cleared_rests t u a e =
       let f = simplify_settles told.mark t a.simplified a.simplifies in
       let g = remove_settles told.mark a.simplified u a.removes in
@@ -51,12 +55,12 @@ module _ (told : Told) where
         removes = subst (λ x. Removed (mark_number told.mark) t x) e (subst (λ x. Removed (mark_number told.mark) x u) i a.removes);
       }
 
-  pub still_rests : (c : Bool) (t u : Tree) → Cleared told t u → TellsChange c t u → c ≡ false → AtRest told u
+  pub still_rests : (c : Bool) (t u : Tree) → Cleared told.mark told.mark t u → TellsChange c t u → c ≡ false → AtRest told u
   still_rests true t u a d e = absurd (false≢true (sym e))
   still_rests false t u a d e = subst (AtRest told) (sym d) (cleared_rests t u a d)
 
   -- a change of theirs is lighter
-  cleared_falls : (c : Bool) (t u : Tree) → Cleared told t u → TellsChange c t u → Falls c t u
+  cleared_falls : (c : Bool) (t u : Tree) → Cleared told.mark told.mark t u → TellsChange c t u → Falls c t u
   cleared_falls true t u a d = by (lighter_on t a.simplified u a.simplifies.lighter a.removes.lighter)
     where
       by : SameBare t u ⊎ (weight u < weight t) → weight u < weight t
@@ -64,11 +68,11 @@ module _ (told : Told) where
       by (inr k) = k
   cleared_falls false t u a e = e
 
-  round_of : (t v u : Tree) → Cleared told t v → Shaken told v u → Round told t u
+  round_of : (t v u : Tree) → Cleared told.mark told.mark t v → Shaken told v u → Round told t u
   round_of t v u a s = record { simplified = a.simplified; removed = v; simplifies = a.simplifies; removes = a.removes; shakes = s }
 
   -- a round
-  pub one_round : (most : ℕ) (c d : Bool) (t v u : Tree) → 0 < most → Cleared told t v → TellsChange c t v → Shaken told v u → TellsChange d v u → Turned told most t 1 (not (c || d)) u
+  pub one_round : (most : ℕ) (c d : Bool) (t v u : Tree) → 0 < most → Cleared told.mark told.mark t v → TellsChange c t v → Shaken told v u → TellsChange d v u → Turned told most t 1 (not (c || d)) u
   one_round most c d t v u k a e s f = record {
     rounds = more_on (c || d) none (round_of t v u a s) (falls_tells (c || d) t u (falls_on c d t v u (cleared_falls c t v a e) (falls (shake_lawful told) refl d v u s f)));
     some = omega arith;

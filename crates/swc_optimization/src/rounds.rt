@@ -1,13 +1,10 @@
 //! Rounds of the three passes. Rounds in which nothing but functions and variables of one list goes are done at once.
 ghost use Rattle.std.specs.Prelude.{◌≡◌, ◌<◌, ◌≤◌, ◌||◌, false, Some, IfOk, IfErr};
-ghost use Rattle.swc_ast.specs.Marks.{mark_number};
 ghost use Rattle.swc_ast.specs.Modules.{script_tree};
 ghost use Rattle.swc_ast.specs.Tree.{Tree};
 ghost use Rattle.swc_ast.specs.declared.errors.PassError.TheVariants.{OutOfMemory};
 ghost use Rattle.swc_pass.specs.Pass.{TellsChange};
 ghost use Rattle.swc_pass.specs.Repeat.{Rounds, Rounded};
-ghost use Rattle.swc_expr.specs.Simplified.{Simplified};
-ghost use Rattle.swc_branch.specs.Removed.{Removed};
 ghost use Rattle.swc_dce.specs.Configured.{told};
 ghost use Rattle.swc_dce.specs.Shaken.{Shaken};
 ghost use Rattle.round_units.specs.Trees.{units_tree};
@@ -59,28 +56,27 @@ pub(crate) struct Ran<W> {
     pub(crate) reached: bool,
 }
 
-/// The same of a turn of the loop, and whether all but the tree shaker changed nothing in it.
+/// The same of a turn of the loop, and how many rounds it ends with in which all but the tree shaker changed nothing.
 #[derive(Drop)]
 struct Turn<W> {
     ran: Ran<W>,
-    quiet: bool,
+    quiet: usize,
 }
 
 /// What rounds go over: a module as its items, or a script. Of these, modules can have rounds at once.
 pub(crate) trait InRounds: Drop {
     ghost tree: { Self → Tree };
 
-    /// What the expression simplifier makes of it.
-    fn simplified(self, pass: &mut SimplifyExpr, alloc: Global) -> Result<Made<Self>, PassError>
-        ensures settings { ⟦<SimplifyExpr as Pass>⟧.settings pass.new ≡ ⟦<SimplifyExpr as Pass>⟧.settings pass.old }
-        ensures answer { IfOk result (λ r. Simplified (mark_number (⟦<SimplifyExpr as Pass>⟧.settings pass.old)) (tree self) (tree r.whole)) }
-        ensures changed { IfOk result (λ r. TellsChange r.changed (tree self) (tree r.whole)) }
-        ensures memory { IfErr result (λ e. e ≡ OutOfMemory) };
-
-    /// What the remover of dead branches makes of it.
-    fn removed(self, pass: &mut Remover, alloc: Global) -> Result<Made<Self>, PassError>
-        ensures settings { ⟦<Remover as Pass>⟧.settings pass.new ≡ ⟦<Remover as Pass>⟧.settings pass.old }
-        ensures answer { IfOk result (λ r. Removed (mark_number (⟦<Remover as Pass>⟧.settings pass.old)) (tree self) (tree r.whole)) }
+    /// What the expression simplifier and then the remover of dead branches make of it.
+    fn cleared(
+        self,
+        expressions: &mut SimplifyExpr,
+        branches: &mut Remover,
+        alloc: Global,
+    ) -> Result<Made<Self>, PassError>
+        ensures expressions { ⟦<SimplifyExpr as Pass>⟧.settings expressions.new ≡ ⟦<SimplifyExpr as Pass>⟧.settings expressions.old }
+        ensures branches { ⟦<Remover as Pass>⟧.settings branches.new ≡ ⟦<Remover as Pass>⟧.settings branches.old }
+        ensures answer { IfOk result (λ r. Cleared (⟦<SimplifyExpr as Pass>⟧.settings expressions.old) (⟦<Remover as Pass>⟧.settings branches.old) (tree self) (tree r.whole)) }
         ensures changed { IfOk result (λ r. TellsChange r.changed (tree self) (tree r.whole)) }
         ensures memory { IfErr result (λ e. e ≡ OutOfMemory) };
 
@@ -103,13 +99,15 @@ pub(crate) trait InRounds: Drop {
 impl InRounds for Units {
     ghost tree = { units_tree };
 
-    fn simplified(self, pass: &mut SimplifyExpr, alloc: Global) -> Result<Made<Units>, PassError> {
-        let made = self.simplify(&pass.rules(alloc))?;
-        Ok(made)
-    }
-
-    fn removed(self, pass: &mut Remover, alloc: Global) -> Result<Made<Units>, PassError> {
-        let made = self.remove(&pass.rules(alloc))?;
+    fn cleared(
+        self,
+        expressions: &mut SimplifyExpr,
+        branches: &mut Remover,
+        alloc: Global,
+    ) -> Result<Made<Units>, PassError> {
+        let simplifying = expressions.rules(alloc);
+        let removing = branches.rules(alloc);
+        let made = self.clear(&simplifying, &removing)?;
         Ok(made)
     }
 
@@ -148,12 +146,19 @@ fn made_by<P: Pass, W: Whole>(pass: &mut P, alloc: Global, whole: W) -> Result<M
 impl InRounds for Script {
     ghost tree = { script_tree };
 
-    fn simplified(self, pass: &mut SimplifyExpr, alloc: Global) -> Result<Made<Script>, PassError> {
-        made_by(pass, alloc, self)
-    }
-
-    fn removed(self, pass: &mut Remover, alloc: Global) -> Result<Made<Script>, PassError> {
-        made_by(pass, alloc, self)
+    fn cleared(
+        self,
+        expressions: &mut SimplifyExpr,
+        branches: &mut Remover,
+        alloc: Global,
+    ) -> Result<Made<Script>, PassError> {
+        let simplified = made_by(expressions, alloc, self)?;
+        let removed = made_by(branches, alloc, simplified.whole)?;
+        let changed = either(simplified.changed, removed.changed);
+        Ok(Made {
+            whole: removed.whole,
+            changed,
+        })
     }
 
     fn shaken(self, pass: &mut TreeShaker, alloc: Global) -> Result<Made<Script>, PassError> {
@@ -244,18 +249,11 @@ impl Passes {
     /// What the expression simplifier and then the remover make of it.
     fn clear<W: InRounds>(&mut self, alloc: Global, whole: W) -> Result<Made<W>, PassError>
         ensures told { self.new ≡ self.old }
-        ensures answer { IfOk result (λ r. Cleared self.old (W.tree whole) (W.tree r.whole)) }
+        ensures answer { IfOk result (λ r. Cleared self.old.mark self.old.mark (W.tree whole) (W.tree r.whole)) }
         ensures changed { IfOk result (λ r. TellsChange r.changed (W.tree whole) (W.tree r.whole)) }
         ensures memory { IfErr result (λ e. e ≡ OutOfMemory) }
     {
-        let simplified = whole.simplified(&mut self.expressions, alloc)?;
-        let first = simplified.changed;
-        let removed = simplified.whole.removed(&mut self.branches, alloc)?;
-        let changed = either(first, removed.changed);
-        Ok(Made {
-            whole: removed.whole,
-            changed,
-        })
+        whole.cleared(&mut self.expressions, &mut self.branches, alloc)
     }
 
     /// What the tree shaker makes of it.
@@ -297,12 +295,12 @@ impl Passes {
         })
     }
 
-    /// A round, or several: behind a round in which all but the tree shaker changed nothing, those that can be done at once.
+    /// A round, or several: behind two rounds in which all but the tree shaker changed nothing, those that can be done at once.
     fn turn<W: InRounds>(
         &mut self,
         alloc: Global,
         most: usize,
-        quiet: bool,
+        quiet: usize,
         whole: W,
     ) -> Result<Turn<W>, PassError>
         requires { 0 < most }
@@ -311,9 +309,9 @@ impl Passes {
         ensures memory { IfErr result (λ e. e ≡ OutOfMemory) }
     {
         let made = self.clear(alloc, whole)?;
-        if quiet && !made.changed {
+        if quiet > 1 && !made.changed {
             let ran = self.shake_at_rest(alloc, most, made.whole)?;
-            return Ok(Turn { ran, quiet: true });
+            return Ok(Turn { ran, quiet });
         }
         let shaken = self.shake(alloc, made.whole)?;
         let changed = either(made.changed, shaken.changed);
@@ -322,10 +320,12 @@ impl Passes {
             rounds: 1,
             reached: !changed,
         };
-        Ok(Turn {
-            ran,
-            quiet: !made.changed,
-        })
+        let quiet = if made.changed {
+            0
+        } else {
+            quiet.saturating_add(1)
+        };
+        Ok(Turn { ran, quiet })
     }
 }
 
@@ -341,7 +341,7 @@ pub(crate) fn run_rounds<W: InRounds>(
     ensures memory { IfErr result (λ e. e ≡ OutOfMemory) }
 {
     let mut whole = whole;
-    let mut quiet = false;
+    let mut quiet = 0;
     let mut done = 0;
     while done < max_rounds {
         let turn = passes.turn(alloc, max_rounds - done, quiet, whole)?;

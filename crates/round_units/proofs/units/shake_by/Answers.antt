@@ -17,12 +17,12 @@ returns-then-begins_with_asm-clause-shaken c = λ s.
 
 pub returns-clause-shaken : goal.returns-clause-shaken
 returns-clause-shaken c = λ s.
-    let us = c.walk_units.new.items.items in let vs = c.drop_items-left.new.items.items in
+    let us = c.shake_units.new.items.items in let vs = c.drop_items-left.new.items.items in
     items_then _ (items_in us) (items_in vs) c.in_ok-inside.inside c.drop_items-left.result (s ∷ []) (each_item c.in_ok-inside.ensures.walked)
     (items_shaken (shaker c.args.rules.known) c.drop_items-left.result us vs c.drop_items-left.ensures.shaken)
 
 pub returns-clause-known : goal.returns-clause-known
-returns-clause-known c = known_kept c.walk_units.new.items.items c.drop_items-left.new.items.items c.drop_items-left.ensures.kept c.in_ok-inside.ensures.known
+returns-clause-known c = known_kept c.shake_units.new.items.items c.drop_items-left.new.items.items c.drop_items-left.ensures.kept c.in_ok-inside.ensures.known
 
 pub returns-clause-said : goal.returns-clause-said
-returns-clause-said c = λ names h. said_kept c.walk_units.new.items.items c.drop_items-left.new.items.items c.drop_items-left.ensures.kept names (c.in_ok-inside.ensures.said names h)
+returns-clause-said c = λ g h. said_kept c.shake_units.new.items.items c.drop_items-left.new.items.items c.drop_items-left.ensures.kept g (c.in_ok-inside.ensures.said g h)

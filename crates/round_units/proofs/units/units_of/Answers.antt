@@ -12,6 +12,6 @@ loop-item-preserved c =
       items_pushed us vs c.in-Some.item (into_iter_items c.loop-item.item-iterator) (into_iter_items c.next.new.self) _ pushed (search rules) c.loop-item.invariant.0,
       (
         subst AllKnown (sym pushed) (All-append Known us (u ∷ []) c.loop-item.invariant.1.0 (All-cons Known u [] (unknown_known c.in-Some.item) (All-nil Known))),
-        λ names. subst (AllSay names) (sym pushed) (All-append (SaidOf names) us (u ∷ []) (c.loop-item.invariant.1.1 names) (All-cons (SaidOf names) u [] tt (All-nil (SaidOf names)))),
+        λ g. subst (AllSay g) (sym pushed) (All-append (SaidOf g) us (u ∷ []) (c.loop-item.invariant.1.1 g) (All-cons (SaidOf g) u [] tt (All-nil (SaidOf g)))),
       ),
     )

@@ -11,7 +11,7 @@ use Rattle.dce_uses.proofs.uses.Uses.of_script.Goals as goal
 pub returns-clause-tells : goal.returns-clause-tells
 returns-clause-tells c =
     let s = c.args.s.now in let t = script_tree s in let start = c.nothing-uses.result in
-    let u : Uses = record { table = c.count.new.self; exports_default = start.exports_default } in
+    let u : Uses = record { table = c.count.new.self; exports_default = start.exports_default; rows = start.rows; told = start.told } in
     script_told u start.table (s.span ∷ []) (list_trees stmt_tree s.body.items) c.nothing-uses.ensures.table
     (subst (λ p. Notes start.table c.count.new.self (λ f x. noted f x p t)) c.top.ensures c.in_ok-count.ensures.notes)
     c.nothing-uses.ensures.default

@@ -14,6 +14,6 @@ returns-else-changed-clause-known g c =
     known_then (λ t. IfSome u.simplified (λ k. Rests (simplify_pass (context_number k)) t) × (IfSome u.removed (λ k. Rests (remove_pass (context_number k)) t) × (IsTrue u.settled → Settles t))) c.in_ok-changed.changed (item_tree u.item) (item_tree c.walk_module_item.new.item) c.if-changed.false c.in_ok-changed.ensures c.requires.known
 
 pub returns-else-changed-clause-said : goal.returns-else-changed-clause-said
-returns-else-changed-clause-said g c = λ names h.
+returns-else-changed-clause-said g c = λ k h.
     let u = c.args.self.now in
-    known_then (λ t. IfSome u.said (λ s. Says names s t)) c.in_ok-changed.changed (item_tree u.item) (item_tree c.walk_module_item.new.item) c.if-changed.false c.in_ok-changed.ensures h
+    known_then (λ t. IfSome u.said (λ s. Says k s t)) c.in_ok-changed.changed (item_tree u.item) (item_tree c.walk_module_item.new.item) c.if-changed.false c.in_ok-changed.ensures h
