@@ -8,11 +8,8 @@ use Rattle.swc_ast.specs.Tree.{Name, Label, Tree, node, Forest, ε, ◌⊳◌, l
 use Rattle.swc_ast.specs.Valid.{good_names, good_shape, valid, valid_all}
 use Rattle.swc_ast.specs.declared.names.Ident.{Ident}
 use Rattle.swc_debug.proofs.Whole.{split_as as valid_split}
-use Rattle.tree_visit.specs.Nodes.{node_tree, children_forest}
-use Rattle.tree_visit.specs.declared.node.Node.{Node}
-use Rattle.tree_visit.specs.declared.children.Children.TheVariants.{One}
 use Rattle.tree_visit.proofs.Caps.{tree_size, forest_size, opened_smaller}
-use Rattle.tree_captures.specs.Captured.{Scopes, Inside, Sight, Caught, Sound, spelled, if_captured, each, inside, behind_first, captured, captured_in, first_of, seen}
+use Rattle.tree_captures.specs.Captured.{Scopes, Inside, Sight, Caught, Sound, spelled, if_captured, inside, behind_first, captured, captured_in, first_of, seen}
 use Rattle.tree_captures.specs.Views.{told, sight, sight_of}
 use Rattle.tree_captures.specs.declared.captures.Seen.{Seen}
 
@@ -109,36 +106,14 @@ goes_on i j t ts us s v g is own found moved h = ap (λ k. seen (captured_in k t
 pub ends : (i : Inside) (us : Forest) (v : Bool) (g : Sight) → us ≡ ε → seen (captured_in i us) (v && valid_all us) ≡ g → Sound v ≡ g
 ends i us v g is h = ap Sound (sym (and-true v)) ∙ sym (ap (λ vs. seen (captured_in i vs) (v && valid_all vs)) is) ∙ h
 
--- a node by itself
-
-no_more : {A : Type 0} (xs : List A) → xs ++ [] ≡ xs
-no_more [] = refl
-no_more (x ∷ xs) = ap (λ ys. x ∷ ys) (no_more xs)
-
-pub alone : (e : Scopes) (t : Tree) (us : Forest) (v : Bool) → us ≡ t ⊳ ε → seen (captured_in (each e) us) (v && valid_all us) ≡ seen (captured e t) (v && valid t)
-alone e t us v is = ap (λ ts. seen (captured_in (each e) ts) (v && valid_all ts)) is ∙ ap₂ seen (no_more (captured e t)) (ap (λ b. v && b) (and-true (valid t)))
-
-pub one_is : (n : Node) → children_forest (One n) ≡ node_tree n ⊳ ε
-unfolding children_forest
-one_is n = refl
-
 pub nobody : {A : Type 0} (o : Option A) → is_some o ≡ false → o ≡ None
 nobody None h = refl
 nobody (Some x) h = absurd (false≢true (sym h))
 
 -- how deep the walk is
 
-pub children_fall : (t : Tree) (cs : Forest) → children_of t ≡ cs → forest_size cs * 9 + 8 < tree_size t * 9 + 7
+pub children_fall : (t : Tree) (cs : Forest) → children_of t ≡ cs → forest_size cs * 3 + 2 < tree_size t * 3 + 1
 children_fall t cs is = let smaller = opened_smaller t cs is in omega (arith, smaller)
 
-pub child_falls : (t : Tree) (ts us cs : Forest) → us ≡ t ⊳ ts → forest_size us ≤ forest_size cs → tree_size t * 9 + 8 < forest_size cs * 9 + 1
+pub child_falls : (t : Tree) (ts us cs : Forest) → us ≡ t ⊳ ts → forest_size us ≤ forest_size cs → tree_size t * 3 + 2 < forest_size cs * 3 + 2
 child_falls t ts us cs is h = omega (arith, ap forest_size is, h)
-
-pub first_falls : (t : Tree) (ts us : Forest) → us ≡ t ⊳ ts → tree_size t * 9 + 8 < forest_size us * 9
-first_falls t ts us is = omega (arith, ap forest_size is)
-
-pub rest_falls : (t : Tree) (ts us : Forest) → us ≡ t ⊳ ts → forest_size ts * 9 + 8 < forest_size us * 9
-rest_falls t ts us is = omega (arith, ap forest_size is)
-
-pub alone_falls : (t : Tree) (ts us vs : Forest) → us ≡ t ⊳ ts → vs ≡ t ⊳ ε → forest_size vs * 9 ≤ forest_size us * 9
-alone_falls t ts us vs is alone = omega (arith, ap forest_size is, ap forest_size alone)

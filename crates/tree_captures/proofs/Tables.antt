@@ -114,9 +114,9 @@ taken_next m n os ns o old t made out h = hash_map_updates_str o.text.now m n No
 
 -- what texts stood for is put back
 
-restored_append : (os : List Outer) (o : Outer) (e : Scopes) → restored (os ++ (o ∷ [])) e ≡ restored os (restored (o ∷ []) e)
-restored_append [] o e = refl
-restored_append (p ∷ ps) o e = ap (λ f x. if bytes_eq p.text.now x.text then lacks p.known x else f x) (restored_append ps o e)
+pub restored_both : (os ps : List Outer) (e : Scopes) → restored (os ++ ps) e ≡ restored os (restored ps e)
+restored_both [] ps e = refl
+restored_both (o ∷ os) ps e = ap (λ f x. if bytes_eq o.text.now x.text then lacks o.known x else f x) (restored_both os ps e)
 
 outer_one : (a b : Bool) (x y z : Bool) → (a ≡ false → b ≡ true → y ≡ x) → (if a then x else (if b then y else z)) ≡ (if (a || b) then x else z)
 outer_one true b x y z h = refl
@@ -124,7 +124,7 @@ outer_one false true x y z h = h refl refl
 outer_one false false x y z h = refl
 
 pub outside_next : (old : Table) (cur : Text → Option Known) (os ns : List Outer) (o : Outer) (e : Scopes) (x : Name) → ns ≡ os ++ (o ∷ []) → o.known ≡ cur o.text.now → ((t : Text) → cur t ≡ (if has_outer os t then None else known_of old t)) → ((f : Scopes) → restored os f x ≡ (if has_outer os x.text then captures old x else f x)) → restored ns e x ≡ (if has_outer ns x.text then captures old x else e x)
-outside_next old cur os ns o e x made is taken h = ap (λ ps. restored ps e x) made ∙ ap (λ f. f x) (restored_append os o e) ∙ h (restored (o ∷ []) e) ∙ outer_one (has_outer os x.text) (bytes_eq o.text.now x.text) (captures old x) (lacks o.known x) (e x) here ∙ sym (ap (λ b. if b then captures old x else e x) (has_next os ns o x.text made))
+outside_next old cur os ns o e x made is taken h = ap (λ ps. restored ps e x) made ∙ ap (λ f. f x) (restored_both os (o ∷ []) e) ∙ h (restored (o ∷ []) e) ∙ outer_one (has_outer os x.text) (bytes_eq o.text.now x.text) (captures old x) (lacks o.known x) (e x) here ∙ sym (ap (λ b. if b then captures old x else e x) (has_next os ns o x.text made))
   where
     here : has_outer os x.text ≡ false → bytes_eq o.text.now x.text ≡ true → lacks o.known x ≡ captures old x
     here free same = ap (λ k. lacks k x) (is ∙ ap cur ((bytes_eq-Decides o.text.now x.text).0 same) ∙ taken x.text ∙ ap (λ b. if b then None else known_of old x.text) free)
@@ -182,7 +182,7 @@ pub put_back : (m n : Table) (o : Outer) (w : Option Known) → o.known ≡ w �
 put_back m n o w is put = fun_ext (λ x. ap (λ k. lacks k x) (hash_map_updates_str o.text.now m.known n.known w put x.text) ∙ lacks_by (bytes_eq o.text.now x.text) w (known_of m x.text) x ∙ sym (ap (λ k. if bytes_eq o.text.now x.text then lacks k x else captures m x) is))
 
 pub one_back : (os ns : List Outer) (o : Outer) (e f g : Scopes) → os ≡ ns ++ (o ∷ []) → f ≡ restored (o ∷ []) e → restored os e ≡ g → restored ns f ≡ g
-one_back os ns o e f g is put h = ap (restored ns) put ∙ sym (restored_append ns o e) ∙ sym (ap (λ ps. restored ps e) is) ∙ h
+one_back os ns o e f g is put h = ap (restored ns) put ∙ sym (restored_both ns (o ∷ []) e) ∙ sym (ap (λ ps. restored ps e) is) ∙ h
 
 pub all_back : (os : List Outer) (e g : Scopes) → os ≡ [] → restored os e ≡ g → e ≡ g
 all_back os e g is h = sym (ap (λ ps. restored ps e) is) ∙ h

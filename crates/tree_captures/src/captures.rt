@@ -1,23 +1,20 @@
 //! The first captured name of a tree, in the order of the text, and whether the tree is valid.
 ghost use Rattle.std.specs.Prelude.{◌≡◌, ◌&&◌, Bool, true, false, List, IfOk};
 ghost use Rattle.swc_ast.specs.Modules.{module_tree, script_tree};
-ghost use Rattle.swc_ast.specs.Resolved.{declared_names};
 ghost use Rattle.swc_ast.specs.Tree.{Name as TreeName};
 ghost use Rattle.swc_ast.specs.Valid.{good_names, good_shape, valid, valid_all};
-ghost use Rattle.tree_captures.specs.Captured.{spelled as label_spelled, no_scope, with_scope, if_captured, captured, captured_in, each, inside as label_inside, within, of_function, round_params, round_body, first_of, seen};
+ghost use Rattle.tree_captures.specs.Captured.{spelled as label_spelled, no_scope, if_captured, captured, captured_in, inside, first_of, seen};
 ghost use Rattle.tree_captures.specs.Views.{told, sight, Tells, captures};
-ghost use Rattle.swc_resolved.specs.Names.{names as names_of};
-ghost use Rattle.swc_resolved.specs.Scopes.{own_names};
 ghost use Rattle.tree_leaves.specs.Leaves.{leaf_tree};
 ghost use Rattle.tree_visit.specs.Kinds.{kind_label};
 ghost use Rattle.tree_visit.specs.Nodes.{node_tree, children_forest};
 
-use crate::reach::Reach;
+use crate::scopes::{Place, Scopes};
 use crate::table::Table;
 use std::alloc::{AllocError, Global};
 use swc_ast::{Ident, Module, Script};
 use swc_debug::{has_good_names, has_good_shape};
-use swc_resolved::{Half, Name, Part, add_body, add_names, add_own_names, half_of, has_default};
+use swc_resolved::Name;
 use tree_leaves::{Leaf, leaf_of};
 use tree_visit::{Children, Kind, Node};
 
@@ -110,9 +107,9 @@ fn leaf_seen<'a>(leaf: Leaf<'a>, table: &Table<'a>, is_valid: bool) -> Seen<'a>
     }
 }
 
-/// The same, by what the node is and its children.
+/// The same of what is neither a name nor a literal, by what the node is and its children.
+#[inline(never)]
 #[cycle(captures)]
-#[inline(always)]
 #[tactic(auto, using(crate::proofs::First::children_fall, crate::proofs::First::found_here, crate::proofs::First::found_below))]
 fn first_in_opened<'a>(
     n: Node<'a>,
@@ -133,6 +130,41 @@ fn first_in_opened<'a>(
     }
     let is_good = stays_valid(is_valid, opened.kind, opened.children);
     first_below(opened.kind, opened.children, table, is_good, alloc)
+}
+
+/// The same among the children of a node.
+#[cycle(captures)]
+#[inline(always)]
+#[tactic(auto, using(swc_resolved::proofs::Sizes::rest_within, crate::proofs::First::child_falls, crate::proofs::First::found_among, crate::proofs::First::ends))]
+fn first_below<'a>(
+    kind: Kind<'a>,
+    children: Children<'a>,
+    table: &mut Table<'a>,
+    is_valid: bool,
+    alloc: Global,
+) -> Result<Seen<'a>, AllocError>
+    ensures sight { IfOk result (λ s. sight s ≡ seen (captured_in (inside (kind_label kind.entry) (children_forest children.entry) (captures table.old)) (children_forest children.entry)) (is_valid && valid_all (children_forest children.entry))) }
+    ensures kept { IfOk result (λ s. s.captured ≡ None → captures table.new ≡ captures table.old) }
+{
+    let mut scopes = Scopes::of(kind, children, alloc);
+    let mut place = Place::First;
+    let mut left = children;
+    let mut so_far = is_valid;
+    while let Some((child, rest)) = left.next() {
+        scopes.go_to(place, &mut *table, alloc)?;
+        let found = first_in(child, &mut *table, so_far, alloc)?;
+        if found.captured.is_some() {
+            return Ok(found);
+        }
+        so_far = found.is_valid;
+        place = place.next();
+        left = rest;
+    }
+    scopes.close(table, alloc)?;
+    Ok(Seen {
+        captured: None,
+        is_valid: so_far,
+    })
 }
 
 /// Whether nodes stay valid with one more, its children aside.
@@ -183,287 +215,4 @@ fn spelled<'a>(kind: Kind<'a>) -> Option<&'a Ident>
         Kind::ExportSpecifier(n) => Some(&n.orig),
         _ => None,
     }
-}
-
-/// The same among the children of a node.
-#[cycle(captures)]
-#[inline(always)]
-fn first_below<'a>(
-    kind: Kind<'a>,
-    children: Children<'a>,
-    table: &mut Table<'a>,
-    is_valid: bool,
-    alloc: Global,
-) -> Result<Seen<'a>, AllocError>
-    ensures sight { IfOk result (λ s. sight s ≡ seen (captured_in (label_inside (kind_label kind.entry) (children_forest children.entry) (captures table.old)) (children_forest children.entry)) (is_valid && valid_all (children_forest children.entry))) }
-    ensures kept { IfOk result (λ s. s.captured ≡ None → captures table.new ≡ captures table.old) }
-{
-    let reach = Reach::of(kind);
-    match reach {
-        Reach::Nothing => first_among(children, table, is_valid, alloc),
-        _ => first_in_scope(reach, kind, children, table, is_valid, alloc),
-    }
-}
-
-/// The same of a node that has a scope of its own, that of a function's parameters and body aside.
-#[inline(never)]
-#[cycle(captures)]
-fn first_in_scope<'a>(
-    reach: Reach,
-    kind: Kind<'a>,
-    children: Children<'a>,
-    table: &mut Table<'a>,
-    is_valid: bool,
-    alloc: Global,
-) -> Result<Seen<'a>, AllocError>
-    ensures sight { IfOk result (λ s. sight s ≡ seen (captured_in (within reach (children_forest children.entry) (captures table.old) (with_scope (own_names (kind_label kind.entry) (children_forest children.entry)) (captures table.old))) (children_forest children.entry)) (is_valid && valid_all (children_forest children.entry))) }
-    ensures kept { IfOk result (λ s. s.captured ≡ None → captures table.new ≡ captures table.old) }
-{
-    let mut names = Vec::new(alloc);
-    add_own_names(&mut names, kind, children)?;
-    match reach {
-        Reach::Nothing => first_among(children, table, is_valid, alloc),
-        Reach::Each => first_inside(&names, children, table, is_valid, alloc),
-        Reach::BehindFirst => first_behind(&names, children, table, is_valid, alloc),
-        Reach::Second => first_in_second(&names, children, table, is_valid, alloc),
-        Reach::Function => first_in_named(&names, children, children, table, is_valid, alloc),
-        Reach::Method => first_in_method(&names, children, table, is_valid, alloc),
-    }
-}
-
-/// The same of nodes in a row, inside a scope that binds some names.
-#[inline(never)]
-#[cycle(captures)]
-fn first_inside<'a>(
-    names: &[Name<'a>],
-    children: Children<'a>,
-    table: &mut Table<'a>,
-    is_valid: bool,
-    alloc: Global,
-) -> Result<Seen<'a>, AllocError>
-    ensures sight { IfOk result (λ s. sight s ≡ seen (captured_in (each (with_scope (names_of names.now) (captures table.old))) (children_forest children.entry)) (is_valid && valid_all (children_forest children.entry))) }
-    ensures kept { IfOk result (λ s. s.captured ≡ None → captures table.new ≡ captures table.old) }
-{
-    let outer = table.open(names, alloc)?;
-    let found = first_among(children, &mut *table, is_valid, alloc)?;
-    if found.captured.is_none() {
-        table.close(outer)?;
-    }
-    Ok(found)
-}
-
-/// The same, where the scope is round all nodes but the first.
-#[inline(never)]
-#[cycle(captures)]
-#[tactic(auto, using(crate::proofs::First::first_falls, crate::proofs::First::rest_falls, crate::proofs::First::found_among, crate::proofs::First::goes_on, crate::proofs::First::ends))]
-fn first_behind<'a>(
-    names: &[Name<'a>],
-    children: Children<'a>,
-    table: &mut Table<'a>,
-    is_valid: bool,
-    alloc: Global,
-) -> Result<Seen<'a>, AllocError>
-    ensures sight { IfOk result (λ s. sight s ≡ seen (captured_in (record { first = captures table.old; second = (with_scope (names_of names.now) (captures table.old)); others = (with_scope (names_of names.now) (captures table.old)) }) (children_forest children.entry)) (is_valid && valid_all (children_forest children.entry))) }
-    ensures kept { IfOk result (λ s. s.captured ≡ None → captures table.new ≡ captures table.old) }
-{
-    match children.next() {
-        None => Ok(Seen {
-            captured: None,
-            is_valid,
-        }),
-        Some((first, rest)) => {
-            let found = first_in(first, &mut *table, is_valid, alloc)?;
-            if found.captured.is_some() {
-                return Ok(found);
-            }
-            first_inside(names, rest, table, found.is_valid, alloc)
-        }
-    }
-}
-
-/// The same, where the scope is round the second node alone.
-#[inline(never)]
-#[cycle(captures)]
-#[tactic(auto, using(crate::proofs::First::first_falls, crate::proofs::First::rest_falls, crate::proofs::First::found_among, crate::proofs::First::goes_on, crate::proofs::First::ends))]
-fn first_in_second<'a>(
-    names: &[Name<'a>],
-    children: Children<'a>,
-    table: &mut Table<'a>,
-    is_valid: bool,
-    alloc: Global,
-) -> Result<Seen<'a>, AllocError>
-    ensures sight { IfOk result (λ s. sight s ≡ seen (captured_in (record { first = captures table.old; second = (with_scope (names_of names.now) (captures table.old)); others = captures table.old }) (children_forest children.entry)) (is_valid && valid_all (children_forest children.entry))) }
-    ensures kept { IfOk result (λ s. s.captured ≡ None → captures table.new ≡ captures table.old) }
-{
-    match children.next() {
-        None => Ok(Seen {
-            captured: None,
-            is_valid,
-        }),
-        Some((first, rest)) => {
-            let found = first_in(first, &mut *table, is_valid, alloc)?;
-            if found.captured.is_some() {
-                return Ok(found);
-            }
-            first_in_front(names, rest, table, found.is_valid, alloc)
-        }
-    }
-}
-
-/// The same, where the scope is round the first node alone.
-#[inline(never)]
-#[cycle(captures)]
-#[tactic(auto, using(crate::proofs::First::first_falls, crate::proofs::First::rest_falls, crate::proofs::First::alone_falls, crate::proofs::First::found_among, crate::proofs::First::goes_on, crate::proofs::First::ends))]
-fn first_in_front<'a>(
-    names: &[Name<'a>],
-    children: Children<'a>,
-    table: &mut Table<'a>,
-    is_valid: bool,
-    alloc: Global,
-) -> Result<Seen<'a>, AllocError>
-    ensures sight { IfOk result (λ s. sight s ≡ seen (captured_in (record { first = (with_scope (names_of names.now) (captures table.old)); second = captures table.old; others = captures table.old }) (children_forest children.entry)) (is_valid && valid_all (children_forest children.entry))) }
-    ensures kept { IfOk result (λ s. s.captured ≡ None → captures table.new ≡ captures table.old) }
-{
-    match children.next() {
-        None => Ok(Seen {
-            captured: None,
-            is_valid,
-        }),
-        Some((first, rest)) => {
-            let alone = Children::One(first);
-            let found = first_inside(names, alone, &mut *table, is_valid, alloc)?;
-            if found.captured.is_some() {
-                return Ok(found);
-            }
-            first_among(rest, table, found.is_valid, alloc)
-        }
-    }
-}
-
-/// The same of the parameters and the body of a function, among all of its parts, inside the scope of its own name, if it has one.
-#[inline(never)]
-#[cycle(captures)]
-fn first_in_named<'a>(
-    names: &[Name<'a>],
-    whole: Children<'a>,
-    children: Children<'a>,
-    table: &mut Table<'a>,
-    is_valid: bool,
-    alloc: Global,
-) -> Result<Seen<'a>, AllocError>
-    ensures sight { IfOk result (λ s. sight s ≡ seen (captured_in (of_function false (captures table.old) (round_params (children_forest whole.entry) (with_scope (names_of names.now) (captures table.old))) (round_body (children_forest whole.entry) (with_scope (names_of names.now) (captures table.old)))) (children_forest children.entry)) (is_valid && valid_all (children_forest children.entry))) }
-    ensures kept { IfOk result (λ s. s.captured ≡ None → captures table.new ≡ captures table.old) }
-{
-    let outer = table.open(names, alloc)?;
-    let found = first_in_function(whole, children, &mut *table, is_valid, alloc)?;
-    if found.captured.is_none() {
-        table.close(outer)?;
-    }
-    Ok(found)
-}
-
-/// The same of a method: its key stands outside.
-#[inline(never)]
-#[cycle(captures)]
-#[tactic(auto, using(crate::proofs::First::first_falls, crate::proofs::First::rest_falls, crate::proofs::First::found_among, crate::proofs::First::goes_on, crate::proofs::First::ends))]
-fn first_in_method<'a>(
-    names: &[Name<'a>],
-    children: Children<'a>,
-    table: &mut Table<'a>,
-    is_valid: bool,
-    alloc: Global,
-) -> Result<Seen<'a>, AllocError>
-    ensures sight { IfOk result (λ s. sight s ≡ seen (captured_in (of_function true (captures table.old) (round_params (children_forest children.entry) (with_scope (names_of names.now) (captures table.old))) (round_body (children_forest children.entry) (with_scope (names_of names.now) (captures table.old)))) (children_forest children.entry)) (is_valid && valid_all (children_forest children.entry))) }
-    ensures kept { IfOk result (λ s. s.captured ≡ None → captures table.new ≡ captures table.old) }
-{
-    match children.next() {
-        None => Ok(Seen {
-            captured: None,
-            is_valid,
-        }),
-        Some((key, rest)) => {
-            let found = first_in(key, &mut *table, is_valid, alloc)?;
-            if found.captured.is_some() {
-                return Ok(found);
-            }
-            first_in_named(names, children, rest, table, found.is_valid, alloc)
-        }
-    }
-}
-
-/// The same of the parameters and the body of a function, among all of its parts: they are one scope, but beside a default the
-/// body has one of its own, inside that of the parameters (10.2.11).
-#[inline(always)]
-#[cycle(captures)]
-fn first_in_function<'a>(
-    whole: Children<'a>,
-    children: Children<'a>,
-    table: &mut Table<'a>,
-    is_valid: bool,
-    alloc: Global,
-) -> Result<Seen<'a>, AllocError>
-    ensures sight { IfOk result (λ s. sight s ≡ seen (captured_in (of_function false (captures table.old) (round_params (children_forest whole.entry) (captures table.old)) (round_body (children_forest whole.entry) (captures table.old))) (children_forest children.entry)) (is_valid && valid_all (children_forest children.entry))) }
-    ensures kept { IfOk result (λ s. s.captured ≡ None → captures table.new ≡ captures table.old) }
-{
-    let params = half_of(whole, Half::Params);
-    let body = half_of(whole, Half::Body);
-    let mut names = Vec::new(alloc);
-    add_names(&mut names, params, Part::Params)?;
-    if has_default(params) {
-        return first_beside_default(&names, body, children, table, is_valid, alloc);
-    }
-    add_body(&mut names, body)?;
-    first_inside(&names, children, table, is_valid, alloc)
-}
-
-/// The same beside a default, given the names of the parameters and what stands in the body.
-#[inline(never)]
-#[cycle(captures)]
-fn first_beside_default<'a>(
-    names: &[Name<'a>],
-    body: Children<'a>,
-    children: Children<'a>,
-    table: &mut Table<'a>,
-    is_valid: bool,
-    alloc: Global,
-) -> Result<Seen<'a>, AllocError>
-    ensures sight { IfOk result (λ s. sight s ≡ seen (captured_in (record { first = (with_scope (names_of names.now) (captures table.old)); second = with_scope (declared_names (children_forest body.entry)) (with_scope (names_of names.now) (captures table.old)); others = with_scope (declared_names (children_forest body.entry)) (with_scope (names_of names.now) (captures table.old)) }) (children_forest children.entry)) (is_valid && valid_all (children_forest children.entry))) }
-    ensures kept { IfOk result (λ s. s.captured ≡ None → captures table.new ≡ captures table.old) }
-{
-    let mut inner = Vec::new(alloc);
-    add_body(&mut inner, body)?;
-    let outer = table.open(names, alloc)?;
-    let found = first_behind(&inner, children, &mut *table, is_valid, alloc)?;
-    if found.captured.is_none() {
-        table.close(outer)?;
-    }
-    Ok(found)
-}
-
-/// The same of nodes in a row.
-#[cycle(captures)]
-#[tactic(auto, using(tree_visit::proofs::Caps::rest_falls, swc_resolved::proofs::Sizes::rest_within, crate::proofs::First::child_falls, crate::proofs::First::found_among, crate::proofs::First::goes_on, crate::proofs::First::ends))]
-fn first_among<'a>(
-    children: Children<'a>,
-    table: &mut Table<'a>,
-    is_valid: bool,
-    alloc: Global,
-) -> Result<Seen<'a>, AllocError>
-    ensures sight { IfOk result (λ s. sight s ≡ seen (captured_in (each (captures table.old)) (children_forest children.entry)) (is_valid && valid_all (children_forest children.entry))) }
-    ensures kept { IfOk result (λ s. s.captured ≡ None → captures table.new ≡ captures table.old) }
-{
-    let mut left = children;
-    let mut so_far = is_valid;
-    while let Some((child, rest)) = left.next() {
-        let found = first_in(child, &mut *table, so_far, alloc)?;
-        if found.captured.is_some() {
-            return Ok(found);
-        }
-        so_far = found.is_valid;
-        left = rest;
-    }
-    Ok(Seen {
-        captured: None,
-        is_valid: so_far,
-    })
 }

@@ -4,6 +4,7 @@
 
 mod captures;
 mod reach;
+mod scopes;
 mod table;
 
 pub use captures::{Fault, first_fault, first_fault_of_script};

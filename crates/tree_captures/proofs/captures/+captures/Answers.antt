@@ -1,12 +1,13 @@
-use Rattle.std.proofs.Common.{◌≡◌, ◌&&◌, IfOk, refl, sym, ap, subst, ◌∙◌, arith}
-use Rattle.tree_visit.specs.Kinds.{kind_label}
-use Rattle.tree_visit.specs.Nodes.{node_tree, children_forest, next_forest}
-use Rattle.tree_visit.specs.declared.children.Children.TheVariants.{One}
+use Rattle.std.proofs.Common.{◌≡◌, ◌&&◌, IfOk, sym, ap, subst, ◌∙◌}
 use Rattle.swc_ast.specs.Valid.{valid, valid_all}
-use Rattle.swc_resolved.specs.Names.{names}
-use Rattle.tree_captures.specs.Captured.{Inside, with_scope, each, captured_in, seen}
-use Rattle.tree_captures.specs.Views.{sight, captures}
-use Rattle.tree_captures.proofs.First.{found_below, found_among, goes_on, alone, one_is, nobody, alone_falls}
+use Rattle.tree_visit.specs.Kinds.{kind_label}
+use Rattle.tree_visit.specs.Nodes.{node_tree, children_forest}
+use Rattle.swc_resolved.proofs.Sizes.{rest_within}
+use Rattle.tree_captures.specs.Captured.{captured, captured_in, inside, seen}
+use Rattle.tree_captures.specs.Places.{before, from, round, within}
+use Rattle.tree_captures.specs.Views.{sight, captures, restored}
+use Rattle.tree_captures.proofs.First.{found_below, found_among, goes_on, nobody}
+use Rattle.tree_captures.proofs.Places.{first_at, from_next, before_next, stands, goes}
 use Rattle.tree_captures.proofs.captures.+captures.Goals as goal
 
 pub first_in_opened-returns-clause-sight : goal.first_in_opened-returns-clause-sight
@@ -16,21 +17,38 @@ first_in_opened-returns-clause-sight t c =
     (found_below (captures c.args.table.now) (node_tree c.args.n) (kind_label c.open-opened.result.kind) (children_forest c.open-opened.result.children) c.own_captured-own.result c.args.is_valid c.stays_valid-is_good.result opened.0 opened.1 c.own_captured-own.ensures (sym c.is_some.ensures ∙ c.if-is_some.false) c.stays_valid-is_good.ensures)
     c.first_below.ensures.sight
 
-pub first_in_front-first_inside-requires : goal.first_in_front-first_inside-requires
-first_in_front-first_inside-requires t c = (let h = alone_falls (node_tree c.in-Some.first) (children_forest c.in-Some.rest) (children_forest c.args.children) (children_forest (One c.in-Some.first)) (c.next.ensures ∙ ap next_forest c.in-Some.is) (one_is c.in-Some.first) in omega (arith, h, c.decreases), tt)
+pub first_below-go_to-requires : goal.first_below-go_to-requires
+first_below-go_to-requires t c =
+    let h = c.loop-child.invariant in
+    stands (captures c.args.table.now) (round c.loop-child.scopes c.loop-child.table) (captures c.loop-child.table) (inside (kind_label c.args.kind) (children_forest c.args.children)) (within c.loop-child.scopes) c.loop-child.place h.1.0 h.1.1.0 h.1.1.1.0
 
-pub first_in_front-returns-then-is_some-clause-sight : goal.first_in_front-returns-then-is_some-clause-sight
-first_in_front-returns-then-is_some-clause-sight t c =
-    let e = captures c.args.table.now in let own = with_scope (names c.args.names.now) e in let first = node_tree c.in-Some.first in let cs = children_forest c.args.children in
-    let i : Inside = record { first = own; second = e; others = e } in
-    found_among i first (children_forest c.in-Some.rest) cs c.in_ok-found-in-Some.found (c.args.is_valid && valid first) (c.args.is_valid && valid_all cs) (seen (captured_in i cs) (c.args.is_valid && valid_all cs)) (c.next.ensures ∙ ap next_forest c.in-Some.is) (c.in_ok-found-in-Some.ensures.sight ∙ alone own first (children_forest (One c.in-Some.first)) c.args.is_valid (one_is c.in-Some.first)) (sym c.is_some.ensures ∙ c.if-is_some.true) refl
+pub first_below-returns-then-is_some-clause-sight : goal.first_below-returns-then-is_some-clause-sight
+first_below-returns-then-is_some-clause-sight t c =
+    let h = c.loop-child.invariant in
+    let e = captures c.args.table.now in let cs = children_forest c.args.children in let in_node = inside (kind_label c.args.kind) cs in let i = from (in_node e) c.loop-child.place in
+    let child = node_tree c.in-Some.child in let left = children_forest c.loop-child.left in let v = c.loop-child.so_far in
+    let here = goes e (round c.loop-child.scopes c.loop-child.table) (captures c.go_to.new.table) in_node (within c.loop-child.scopes) c.loop-child.place c.in_ok-go_to.ensures.here h.1.1.0 h.1.1.1.0 ∙ first_at (in_node e) c.loop-child.place in
+    found_among i child (children_forest c.in-Some.rest) left c.in_ok-found.found (v && valid child) (v && valid_all left) (seen (captured_in (in_node e) cs) (c.args.is_valid && valid_all cs)) c.in-Some.ensures
+    (subst (λ s. sight c.in_ok-found.found ≡ seen (captured s child) (v && valid child)) here c.in_ok-found.ensures.sight) (sym c.is_some.ensures ∙ c.if-is_some.true) h.0
 
-pub first_in_front-returns-else-is_some-clause-sight : goal.first_in_front-returns-else-is_some-clause-sight
-first_in_front-returns-else-is_some-clause-sight t c =
-    let e = captures c.args.table.now in let own = with_scope (names c.args.names.now) e in let first = node_tree c.in-Some.first in let cs = children_forest c.args.children in
+pub first_below-loop-child-preserved : goal.first_below-loop-child-preserved
+first_below-loop-child-preserved t c =
+    let h = c.loop-child.invariant in
+    let e = captures c.args.table.now in let cs = children_forest c.args.children in let in_node = inside (kind_label c.args.kind) cs in let p = c.loop-child.place in let i = from (in_node e) p in
+    let child = node_tree c.in-Some.child in let rest = children_forest c.in-Some.rest in let left = children_forest c.loop-child.left in let v = c.loop-child.so_far in
+    let at_place = goes e (round c.loop-child.scopes c.loop-child.table) (captures c.go_to.new.table) in_node (within c.loop-child.scopes) p c.in_ok-go_to.ensures.here h.1.1.0 h.1.1.1.0 in
     let free = sym c.is_some.ensures ∙ c.if-is_some.false in
-    let i : Inside = record { first = own; second = e; others = e } in
-    let j : Inside = each (captures c.first_inside.new.table) in
-    subst (λ x. IfOk c.first_among.result (λ s. sight s ≡ x))
-    (goes_on i j first (children_forest c.in-Some.rest) cs c.in_ok-found-in-Some.found c.args.is_valid (seen (captured_in i cs) (c.args.is_valid && valid_all cs)) (c.next.ensures ∙ ap next_forest c.in-Some.is) (c.in_ok-found-in-Some.ensures.sight ∙ alone own first (children_forest (One c.in-Some.first)) c.args.is_valid (one_is c.in-Some.first)) free (ap each (c.in_ok-found-in-Some.ensures.kept (nobody c.in_ok-found-in-Some.found.captured free))) refl)
-    c.first_among.ensures.sight
+    let kept = c.in_ok-found.ensures.kept (nobody c.in_ok-found.found.captured free) in (
+      goes_on i (from (in_node e) c.next-place.result) child rest left c.in_ok-found.found v (seen (captured_in (in_node e) cs) (c.args.is_valid && valid_all cs)) c.in-Some.ensures
+          (subst (λ s. sight c.in_ok-found.found ≡ seen (captured s child) (v && valid child)) (at_place ∙ first_at (in_node e) p) c.in_ok-found.ensures.sight) free (ap (from (in_node e)) c.next-place.ensures ∙ from_next (in_node e) p) h.0,
+      (
+        kept ∙ (at_place ∙ (before_next e (in_node e) p ∙ ap (before e (in_node e)) (sym c.next-place.ensures))),
+        (
+          ap (restored c.go_to.new.self.outer.items) kept ∙ (c.in_ok-go_to.ensures.round ∙ h.1.1.0),
+          (
+            c.in_ok-go_to.ensures.within ∙ h.1.1.1.0,
+            rest_within child rest left cs c.in-Some.ensures h.1.1.1.1,
+          ),
+        ),
+      ),
+    )
