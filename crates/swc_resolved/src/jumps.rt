@@ -1,9 +1,9 @@
 //! What jumps may go to, and whether a jump has a target.
-ghost use Rattle.std.specs.Prelude.{◌≡◌, IfOk, map};
+ghost use Rattle.std.specs.Prelude.{◌≡◌, false, IfOk, map};
 ghost use Rattle.swc_ast.specs.Meaning.{has_label};
-ghost use Rattle.swc_ast.specs.Resolved.{no_targets, jump_is_aimed, all_labels};
+ghost use Rattle.swc_ast.specs.Resolved.{below, no_targets, jump_is_aimed, all_labels};
 ghost use Rattle.tree_visit.specs.Kinds.{kind_label};
-ghost use Rattle.swc_resolved.specs.Jumps.{targets};
+ghost use Rattle.swc_resolved.specs.Jumps.{adds_targets, targets};
 
 use std::alloc::{AllocError, Global};
 use tree_visit::Kind;
@@ -31,6 +31,23 @@ impl<'a> Targets<'a> {
             can_break: false,
             can_continue: false,
             own: &[],
+        }
+    }
+
+    /// What jumps in a node may go to, unless the node is a label or a loop, which add to that.
+    #[inline(always)]
+    pub(crate) fn inside(&self, kind: Kind<'_>) -> Targets<'a>
+        ensures { adds_targets (kind_label kind.entry) ≡ false → targets result ≡ below (kind_label kind.entry) (targets self.now) }
+    {
+        match kind {
+            Kind::Switch(_) => Targets {
+                can_break: true,
+                own: &[],
+                ..*self
+            },
+            Kind::Fn(_) | Kind::Arrow | Kind::Method | Kind::FnDecl(_) | Kind::ExportDefaultFn(_) =>
+                { Targets::none() }
+            _ => Targets { own: &[], ..*self },
         }
     }
 }

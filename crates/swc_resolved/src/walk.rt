@@ -153,47 +153,12 @@ impl<'a> Taken<'a> {
         ensures { IfOk result (λ b. Passes b (good_all core_too (below (kind_label kind.entry) (targets g.now)) (children_forest children.entry)) (is_taken self.old) (is_taken self.new) (λ x. scopes_all x (children_forest children.entry))) }
     {
         match kind {
-            Kind::Labeled(_) | Kind::While | Kind::DoWhile | Kind::For | Kind::Switch(_) => {
-                self.walk_inside(kind, children, core_too, g, alloc)
-            }
-            Kind::Fn(_) | Kind::Arrow | Kind::Method | Kind::FnDecl(_) | Kind::ExportDefaultFn(_) =>
-                { self.walk_inside(kind, children, core_too, g, alloc) }
-            _ => match g.own {
-                [] => self.walk_all(children, core_too, g, alloc),
-                _ => self.walk_inside(kind, children, core_too, g, alloc),
-            },
-        }
-    }
-
-    /// The same, where jumps inside the node may go elsewhere.
-    #[cycle(walk)]
-    fn walk_inside(
-        &mut self,
-        kind: Kind<'a>,
-        children: Children<'a>,
-        core_too: bool,
-        g: &Targets<'_>,
-        alloc: Global,
-    ) -> Result<bool, AllocError>
-        ensures { IfOk result (λ b. Passes b (good_all core_too (below (kind_label kind.entry) (targets g.now)) (children_forest children.entry)) (is_taken self.old) (is_taken self.new) (λ x. scopes_all x (children_forest children.entry))) }
-    {
-        match kind {
             Kind::Labeled(name) => self.walk_labeled(name, children, core_too, g, alloc),
             Kind::While | Kind::DoWhile | Kind::For => {
                 self.walk_loop(children, core_too, g, alloc)
             }
-            Kind::Switch(_) => {
-                let inner = Targets {
-                    can_break: true,
-                    own: &[],
-                    ..*g
-                };
-                self.walk_all(children, core_too, &inner, alloc)
-            }
-            Kind::Fn(_) | Kind::Arrow | Kind::Method | Kind::FnDecl(_) | Kind::ExportDefaultFn(_) =>
-                { self.walk_all(children, core_too, &Targets::none(), alloc) }
             _ => {
-                let inner = Targets { own: &[], ..*g };
+                let inner = g.inside(kind);
                 self.walk_all(children, core_too, &inner, alloc)
             }
         }

@@ -5,7 +5,7 @@ use Rattle.tree_visit.specs.Nodes.{node_tree, children_forest, next_forest}
 use Rattle.swc_resolved.specs.Jumps.{targets}
 use Rattle.swc_resolved.specs.Names.{is_taken}
 use Rattle.swc_resolved.specs.Asked.{own_good, own_named, good, good_all, Passes}
-use Rattle.swc_resolved.proofs.Aimed.{plain_below, plain_already, no_texts}
+use Rattle.swc_resolved.proofs.Aimed.{adds_none}
 use Rattle.swc_resolved.proofs.Sizes.{children_fall, child_falls, rest_within}
 use Rattle.swc_resolved.proofs.Plain.{leaf_passes}
 use Rattle.swc_resolved.proofs.Good.{own_fails, own_binds_again, last_below, first_fails, rest_decides, rest_binds}
@@ -38,17 +38,10 @@ walk_opened-returns t c =
     let first = subst (λ b. Passes b (own_named c.args.core_too l cs) (is_taken c.args.self.now) (is_taken c.bind_named.new.self) (λ x. own_scopes x l cs)) c.if-not-branch-2.false c.in_ok-bind_named.ensures in
     last_below c.walk_below.result c.args.core_too g (node_tree c.args.n) l cs (is_taken c.args.self.now) (is_taken c.bind_named.new.self) (is_taken c.walk_below.new.self) c.open-opened.ensures.0 c.open-opened.ensures.1 own first c.walk_below.ensures
 
-pub walk_below-returns-in-empty : goal.walk_below-returns-in-empty
-walk_below-returns-in-empty t c =
-    let k = c.args.kind in let g = targets c.args.g.now in let cs = children_forest c.args.children in let d = c.in_default in
-    let below = plain_below k g d.not-Labeled d.not-While d.not-DoWhile d.not-For d.not-Switch d.not-Fn d.not-Arrow d.not-Method d.not-FnDecl d.not-ExportDefaultFn in
-    subst (λ h. IfOk c.walk_all.result (λ b. Passes b (good_all c.args.core_too h cs) (is_taken c.args.self.now) (is_taken c.walk_all.new.self) (λ x. scopes_all x cs))) (plain_already g (no_texts (λ t. t.now) c.args.g.now.own.now c.in-empty.len_below) ∙ below) c.walk_all.ensures
-
-pub walk_inside-returns-in_default : goal.walk_inside-returns-in_default
-walk_inside-returns-in_default t c =
-    let k = c.args.kind in let g = targets c.args.g.now in let cs = children_forest c.args.children in let d = c.in_default in
-    let below = plain_below k g d.not-Labeled d.not-While d.not-DoWhile d.not-For d.not-Switch d.not-Fn d.not-Arrow d.not-Method d.not-FnDecl d.not-ExportDefaultFn in
-    subst (λ h. IfOk c.walk_all-in_default.result (λ b. Passes b (good_all c.args.core_too h cs) (is_taken c.args.self.now) (is_taken c.walk_all-in_default.new.self) (λ x. scopes_all x cs))) below c.walk_all-in_default.ensures
+pub walk_below-returns-in_default : goal.walk_below-returns-in_default
+walk_below-returns-in_default t c =
+    let k = c.args.kind in let cs = children_forest c.args.children in let d = c.in_default in
+    subst (λ h. IfOk c.walk_all.result (λ b. Passes b (good_all c.args.core_too h cs) (is_taken c.args.self.now) (is_taken c.walk_all.new.self) (λ x. scopes_all x cs))) (c.inside-inner.ensures (adds_none k d.not-Labeled d.not-While d.not-DoWhile d.not-For)) c.walk_all.ensures
 
 pub walk_all-returns-then-not-branch : goal.walk_all-returns-then-not-branch
 walk_all-returns-then-not-branch t c =

@@ -17,9 +17,6 @@ decreases-walk_opened l = tree_size (node_tree l.n) * 5 + 3
 abbrev pub decreases-walk_below : goal.decreases-walk_below
 decreases-walk_below l = forest_size (children_forest l.children) * 5 + 3
 
-abbrev pub decreases-walk_inside : goal.decreases-walk_inside
-decreases-walk_inside l = forest_size (children_forest l.children) * 5 + 2
-
 abbrev pub decreases-walk_labeled : goal.decreases-walk_labeled
 decreases-walk_labeled l = forest_size (children_forest l.children) * 5 + 1
 
