@@ -2,6 +2,7 @@
 ghost use Rattle.std.specs.Prelude.{◌≡◌, ◌+◌, IfOk};
 
 use crate::exports::Exports;
+use crate::kept::Kept;
 use crate::scopes::Scopes;
 use crate::targets::Targets;
 use std::alloc::Global;
@@ -29,8 +30,7 @@ pub(crate) struct Parser<'a> {
     pub(crate) has_chains: bool,
     /// whether nodes get their spans, or dummy ones
     pub(crate) has_spans: bool,
-    /// the statements that were read of lists that have not ended, those of the innermost list last
-    pub(crate) stmts: Vec<Stmt>,
+    pub(crate) kept: Kept,
     pub(crate) scopes: Scopes<'a>,
     pub(crate) targets: Targets<'a>,
     pub(crate) exports: Exports<'a>,
@@ -64,12 +64,6 @@ fn level_round(levels: u32) -> Result<u32, Fault> {
     Ok(levels + 1)
 }
 
-/// A statement round parts that have so many levels.
-#[inline(never)]
-pub(crate) fn nest_stmt(node: Stmt, levels: u32) -> Result<Nested<Stmt>, Fault> {
-    Ok(part(node, level_round(levels)?))
-}
-
 /// A part that is itself no expression and no statement.
 pub(crate) fn part<T>(node: T, levels: u32) -> Nested<T> {
     Nested {
@@ -77,37 +71,6 @@ pub(crate) fn part<T>(node: T, levels: u32) -> Nested<T> {
         levels,
         wrapped: false,
     }
-}
-
-/// Adds to a list, which takes room for one item at first, as most lists have no more.
-#[inline(never)]
-pub(crate) fn add<T: Drop>(list: &mut Vec<T>, item: T) -> Result<(), Fault> {
-    if list.is_empty() {
-        list.reserve_exact(1)?;
-    }
-    list.push(item)?;
-    Ok(())
-}
-
-/// Adds an expression to a list, without its box.
-#[inline(never)]
-pub(crate) fn add_unboxed(list: &mut Vec<Expr>, expr: Box<Expr>) -> Result<(), Fault> {
-    add(list, Box::into_inner(expr))
-}
-
-/// A list that ends, which keeps room for no more items. Their levels are given.
-#[inline(never)]
-pub(crate) fn ended<T>(list: Vec<T>, levels: u32) -> Nested<Vec<T>> {
-    let mut list = list;
-    list.shrink_to_fit();
-    part(list, levels)
-}
-
-/// Takes the items from this place on off a stack. The list that they make has room for no more.
-#[inline(never)]
-pub(crate) fn take_from<T>(stack: &mut Vec<T>, start: usize) -> Result<Vec<T>, Fault> {
-    let start = start.min(stack.len());
-    Ok(stack.split_off(start)?)
 }
 
 impl<'a> Parser<'a> {
@@ -130,7 +93,7 @@ impl<'a> Parser<'a> {
             labels_end: 0,
             has_chains,
             has_spans: true,
-            stmts: Vec::new(alloc),
+            kept: Kept::new(alloc),
             scopes: Scopes::new(alloc, mark)?,
             targets: Targets::new(alloc),
             exports: Exports::new(alloc),
@@ -141,6 +104,22 @@ impl<'a> Parser<'a> {
     pub(crate) fn nest(&self, node: Expr, levels: u32) -> Result<Nested<Box<Expr>>, Fault> {
         let levels = level_round(levels)?;
         Ok(part(Box::new(self.alloc, node)?, levels))
+    }
+
+    /// Keeps a statement round parts that have so many levels, until the list ends that it stands in or the statement round it is
+    /// made. Its own levels are returned.
+    #[inline(never)]
+    pub(crate) fn keep(&mut self, stmt: Stmt, levels: u32) -> Result<u32, Fault> {
+        let levels = level_round(levels)?;
+        self.kept.stmts.push(stmt)?;
+        Ok(levels)
+    }
+
+    /// Keeps an expression of a list, without its box.
+    #[inline(never)]
+    pub(crate) fn keep_expr(&mut self, expr: Box<Expr>) -> Result<(), Fault> {
+        self.kept.exprs.push(Box::into_inner(expr))?;
+        Ok(())
     }
 
     #[inline(always)]
@@ -249,6 +228,17 @@ impl<'a> Parser<'a> {
         self.text
             .get(token.start as usize..token.end as usize)
             .unwrap_or("")
+    }
+
+    /// An expression that ends before this token, which is passed.
+    #[inline(never)]
+    pub(crate) fn closed(
+        &mut self,
+        found: Nested<Box<Expr>>,
+        end: Kind,
+    ) -> Result<Nested<Box<Expr>>, Fault> {
+        self.expect(end)?;
+        Ok(found)
     }
 
     /// The end of a statement: a semicolon, or where one may be missing (ECMA-262, 12.10).

@@ -1,5 +1,6 @@
 //! Expressions with operators. What is named `.._behind` goes on behind an operand that was read.
-use crate::cursor::{Nested, Parser, add_unboxed, inside};
+use crate::cursor::{Nested, Parser, inside};
+use crate::kept::{take_from, take_last};
 use crate::names::target;
 use crate::operators::{assign_op, binary_op, unary_op, update_op};
 use swc_ast::{
@@ -9,6 +10,7 @@ use swc_ast::{
 use text_lexer::{Construct, Fault, Kind};
 
 /// Whether an operator may not stand behind this operand without parentheses.
+#[inline(never)]
 fn clashes(op: BinaryOp, operand: &Nested<Box<Expr>>) -> bool {
     if operand.wrapped {
         return false;
@@ -74,6 +76,13 @@ impl<'a> Parser<'a> {
         self.expression_behind(room, start, first)
     }
 
+    /// An expression a level deeper.
+    #[inline(always)]
+    #[cycle(parser)]
+    pub(crate) fn expression_inside(&mut self, room: u32) -> Result<Nested<Box<Expr>>, Fault> {
+        self.expression(inside(room)?)
+    }
+
     /// Further expressions behind commas.
     #[inline(never)]
     #[cycle(parser)]
@@ -86,18 +95,29 @@ impl<'a> Parser<'a> {
         if !self.is_at(Kind::Comma) {
             return Ok(first);
         }
-        let mut exprs = Vec::new(self.alloc);
+        let place = self.kept.exprs.len();
         let mut levels = first.levels;
-        add_unboxed(&mut exprs, first.node)?;
+        self.keep_expr(first.node)?;
         for _ in self.place..self.tokens.len() {
             if !self.take(Kind::Comma) {
                 break;
             }
             let next = self.assignment(inside(room)?)?;
             levels = levels.max(next.levels);
-            add_unboxed(&mut exprs, next.node)?;
+            self.keep_expr(next.node)?;
         }
-        exprs.shrink_to_fit();
+        self.sequence(start, place, levels)
+    }
+
+    /// What stands between commas: the expressions from this one on that were kept.
+    #[inline(never)]
+    fn sequence(
+        &mut self,
+        start: u32,
+        first: usize,
+        levels: u32,
+    ) -> Result<Nested<Box<Expr>>, Fault> {
+        let exprs = take_from(&mut self.kept.exprs, first)?;
         let span = self.span_from(start);
         self.nest(Expr::Seq(SeqExpr { span, exprs }), levels)
     }
@@ -125,33 +145,55 @@ impl<'a> Parser<'a> {
         first: Nested<Box<Expr>>,
     ) -> Result<Nested<Box<Expr>>, Fault> {
         let left = self.binary_behind(room, start, first, 0)?;
+        if ends_operand(self.kind()) {
+            return Ok(left);
+        }
         if self.is_at(Kind::Question) {
             return self.choice_behind(room, start, left);
         }
-        match assign_op(self.kind()) {
-            Some(op) => self.value_behind(room, start, left, op),
-            None => Ok(left),
-        }
+        self.value_behind(room, start, left)
     }
 
-    /// `= a`
+    /// `= a`, if it stands there.
     #[inline(never)]
     #[cycle(parser)]
-    fn value_behind(
+    pub(crate) fn value_behind(
         &mut self,
         room: u32,
         start: u32,
         left: Nested<Box<Expr>>,
-        op: AssignOp,
     ) -> Result<Nested<Box<Expr>>, Fault> {
-        let levels = left.levels;
-        let left = target(left, start)?;
+        let Some(op) = assign_op(self.kind()) else {
+            return Ok(left);
+        };
         self.bump();
+        let levels = self.keep_target(left, start)?;
         let right = self.assignment(inside(room)?)?;
+        self.value(start, op, levels, right)
+    }
+
+    /// Keeps what an operand that begins at an offset may be written to as, and returns its levels.
+    #[inline(never)]
+    fn keep_target(&mut self, operand: Nested<Box<Expr>>, start: u32) -> Result<u32, Fault> {
+        let levels = operand.levels;
+        let found = target(operand, start)?;
+        self.kept.targets.push(found)?;
+        Ok(levels)
+    }
+
+    /// The assignment to what was kept last and has so many levels.
+    #[inline(never)]
+    fn value(
+        &mut self,
+        start: u32,
+        op: AssignOp,
+        levels: u32,
+        right: Nested<Box<Expr>>,
+    ) -> Result<Nested<Box<Expr>>, Fault> {
         let node = AssignExpr {
             span: self.span_from(start),
             op,
-            left,
+            left: take_last(&mut self.kept.targets)?,
             right: right.node,
         };
         let node = Box::new(self.alloc, node)?;
@@ -161,41 +203,51 @@ impl<'a> Parser<'a> {
     /// `? a : b`
     #[inline(never)]
     #[cycle(parser)]
-    fn choice_behind(
+    pub(crate) fn choice_behind(
         &mut self,
         room: u32,
         start: u32,
         test: Nested<Box<Expr>>,
     ) -> Result<Nested<Box<Expr>>, Fault> {
-        self.expect(Kind::Question)?;
+        self.bump();
+        let levels = self.keep_operand(test)?;
         let cons = self.assignment(inside(room)?)?;
+        let levels = levels.max(self.keep_operand(cons)?);
         self.expect(Kind::Colon)?;
         let alt = self.assignment(inside(room)?)?;
-        self.choice(start, test, cons, alt)
+        self.choice(start, levels, alt)
     }
 
+    /// Keeps an operand, and returns its levels.
+    #[inline(never)]
+    fn keep_operand(&mut self, operand: Nested<Box<Expr>>) -> Result<u32, Fault> {
+        self.kept.operands.push(operand.node)?;
+        Ok(operand.levels)
+    }
+
+    /// The choice whose test and first value were kept last and have so many levels.
     #[inline(never)]
     fn choice(
-        &self,
+        &mut self,
         start: u32,
-        test: Nested<Box<Expr>>,
-        cons: Nested<Box<Expr>>,
+        levels: u32,
         alt: Nested<Box<Expr>>,
     ) -> Result<Nested<Box<Expr>>, Fault> {
-        let levels = test.levels.max(cons.levels).max(alt.levels);
+        let cons = take_last(&mut self.kept.operands)?;
+        let test = take_last(&mut self.kept.operands)?;
         let node = CondExpr {
             span: self.span_from(start),
-            test: test.node,
-            cons: cons.node,
+            test,
+            cons,
             alt: alt.node,
         };
-        self.nest(Expr::Cond(node), levels)
+        self.nest(Expr::Cond(node), levels.max(alt.levels))
     }
 
     /// Operators that bind more tightly than `least`, with their operands.
     #[inline(never)]
     #[cycle(parser)]
-    fn binary_behind(
+    pub(crate) fn binary_behind(
         &mut self,
         room: u32,
         start: u32,
@@ -204,25 +256,35 @@ impl<'a> Parser<'a> {
     ) -> Result<Nested<Box<Expr>>, Fault> {
         let mut left = first;
         for _ in self.place..self.tokens.len() {
-            let Some((op, strength)) = binary_op(self.kind()) else {
+            let Some((op, least_behind)) = self.operator(least) else {
                 break;
             };
-            if strength <= least || self.place == self.refused_in {
-                break;
-            }
-            if clashes(op, &left) {
-                return Err(self.refuse());
-            }
-            self.bump();
-            let right = self.right_operand(room, beyond(op, strength))?;
+            let right = if clashes(op, &left) {
+                Err(self.refuse())
+            } else {
+                self.right_operand(room, least_behind)
+            };
             left = self.binary(start, op, left, right)?;
         }
         Ok(left)
     }
 
-    /// The right operand of an operator, to which operators belong that bind more tightly than `least`.
+    /// The operator here, if it binds more tightly than `least`, and what operators bind more tightly than that belong to its right
+    /// operand.
+    #[inline(never)]
+    fn operator(&self, least: u8) -> Option<(BinaryOp, u8)> {
+        let (op, strength) = binary_op(self.kind())?;
+        if strength <= least || self.place == self.refused_in {
+            return None;
+        }
+        Some((op, beyond(op, strength)))
+    }
+
+    /// The right operand of the operator here, which is passed. Operators belong to it that bind more tightly than `least`.
+    #[inline(never)]
     #[cycle(parser)]
     fn right_operand(&mut self, room: u32, least: u8) -> Result<Nested<Box<Expr>>, Fault> {
+        self.bump();
         let start = self.start();
         let first = self.operand(inside(room)?)?;
         if ends_operand(self.kind()) {
@@ -237,8 +299,9 @@ impl<'a> Parser<'a> {
         start: u32,
         op: BinaryOp,
         left: Nested<Box<Expr>>,
-        right: Nested<Box<Expr>>,
+        right: Result<Nested<Box<Expr>>, Fault>,
     ) -> Result<Nested<Box<Expr>>, Fault> {
+        let right = right?;
         let levels = left.levels.max(right.levels);
         let node = BinExpr {
             span: self.span_from(start),
@@ -306,6 +369,19 @@ impl<'a> Parser<'a> {
         first: Nested<Box<Expr>>,
     ) -> Result<Nested<Box<Expr>>, Fault> {
         let found = self.members_behind(room, start, first, true)?;
+        if ends_operand(self.kind()) {
+            return Ok(found);
+        }
+        self.update_behind(start, found)
+    }
+
+    /// `++` or `--` behind an operand, if it stands there.
+    #[inline(never)]
+    fn update_behind(
+        &mut self,
+        start: u32,
+        found: Nested<Box<Expr>>,
+    ) -> Result<Nested<Box<Expr>>, Fault> {
         if self.token().on_new_line {
             return Ok(found);
         }

@@ -1,15 +1,17 @@
 //! Functions.
-use crate::cursor::{Nested, Parser, add, ended, inside, nest_stmt, part};
+use crate::cursor::{Nested, Parser, inside, part};
+use crate::kept::{take_from, take_last};
 use crate::names::redeclared;
 use crate::scopes::ScopeKind;
 use swc_ast::{
-    ArrowExpr, AssignPat, BlockStmt, BlockStmtOrExpr, Decl, Expr, FnDecl, FnExpr, Function, Ident,
-    Pat, Stmt, VarDeclKind,
+    ArrowExpr, AssignPat, BlockStmtOrExpr, Decl, Expr, FnDecl, FnExpr, Function, Ident, Pat, Stmt,
+    VarDeclKind,
 };
 use text_lexer::{Construct, Fault, Kind};
 
-fn has_default(params: &[Pat]) -> bool {
-    for param in params {
+/// Whether one of the parameters from this one on has a default.
+fn has_default(params: &[Pat], first: usize) -> bool {
+    for param in params.get(first..).unwrap_or(&[]) {
         if let Pat::Assign(_) = param {
             return true;
         }
@@ -31,22 +33,28 @@ impl<'a> Parser<'a> {
     pub(crate) fn function_expr(&mut self, room: u32) -> Result<Nested<Box<Expr>>, Fault> {
         let start = self.start();
         self.function_word()?;
-        let ident = self.own_name()?;
+        let has_name = self.own_name()?;
         let function = self.function(room, start)?;
-        if ident.is_some() {
-            self.scopes.close()?;
-        }
-        self.function_of(ident, function)
+        self.function_expr_of(has_name, function)
     }
 
-    /// The own name of a function that is no declaration, if it has one, in a scope that it opens.
+    /// Keeps the own name of a function that is no declaration, in a scope that it opens, and says whether it has one.
     #[inline(never)]
-    fn own_name(&mut self) -> Result<Option<Ident>, Fault> {
+    fn own_name(&mut self) -> Result<bool, Fault> {
         if self.is_at(Kind::LeftParen) {
-            return Ok(None);
+            return Ok(false);
         }
         self.scopes.open(ScopeKind::Block)?;
-        Ok(Some(self.function_name()?))
+        self.keep_name()?;
+        Ok(true)
+    }
+
+    /// Keeps the name of a function, which is declared here.
+    #[inline(never)]
+    fn keep_name(&mut self) -> Result<(), Fault> {
+        let name = self.function_name()?;
+        self.kept.names.push(name)?;
+        Ok(())
     }
 
     /// The name of a function, which is declared here.
@@ -58,14 +66,19 @@ impl<'a> Parser<'a> {
     }
 
     #[inline(never)]
-    fn function_of(
-        &self,
-        ident: Option<Ident>,
-        function: Nested<Function>,
+    fn function_expr_of(
+        &mut self,
+        has_name: bool,
+        function: Nested<Box<Function>>,
     ) -> Result<Nested<Box<Expr>>, Fault> {
+        let mut ident = None;
+        if has_name {
+            self.scopes.close()?;
+            ident = self.kept.names.pop();
+        }
         let node = FnExpr {
             ident,
-            function: Box::new(self.alloc, function.node)?,
+            function: function.node,
         };
         self.nest(Expr::Fn(node), function.levels)
     }
@@ -80,31 +93,28 @@ impl<'a> Parser<'a> {
         let function = self.function(room, start)?;
         Ok(FnDecl {
             ident,
-            function: Box::new(self.alloc, function.node)?,
+            function: function.node,
         })
     }
 
     #[inline(never)]
     #[cycle(parser)]
-    pub(crate) fn function_stmt(&mut self, room: u32) -> Result<Nested<Stmt>, Fault> {
+    pub(crate) fn function_stmt(&mut self, room: u32) -> Result<u32, Fault> {
         let start = self.start();
         self.function_word()?;
-        let ident = self.function_name()?;
+        self.keep_name()?;
         let function = self.function(room, start)?;
-        self.function_stmt_of(ident, function)
+        self.function_stmt_of(function)
     }
 
+    /// Keeps the function whose name was kept last.
     #[inline(never)]
-    fn function_stmt_of(
-        &self,
-        ident: Ident,
-        function: Nested<Function>,
-    ) -> Result<Nested<Stmt>, Fault> {
+    fn function_stmt_of(&mut self, function: Nested<Box<Function>>) -> Result<u32, Fault> {
         let node = FnDecl {
-            ident,
-            function: Box::new(self.alloc, function.node)?,
+            ident: take_last(&mut self.kept.names)?,
+            function: function.node,
         };
-        nest_stmt(Stmt::Decl(Decl::Fn(node)), function.levels)
+        self.keep(Stmt::Decl(Decl::Fn(node)), function.levels)
     }
 
     /// The function of a default export, whose name may be missing.
@@ -118,54 +128,65 @@ impl<'a> Parser<'a> {
         let function = self.function(room, start)?;
         Ok(FnExpr {
             ident,
-            function: Box::new(self.alloc, function.node)?,
+            function: function.node,
         })
     }
 
     /// The parameters and the body of a function or a method that begins at an offset.
     #[inline(never)]
     #[cycle(parser)]
-    pub(crate) fn function(&mut self, room: u32, start: u32) -> Result<Nested<Function>, Fault> {
+    pub(crate) fn function(
+        &mut self,
+        room: u32,
+        start: u32,
+    ) -> Result<Nested<Box<Function>>, Fault> {
         self.scopes.open(ScopeKind::Function)?;
         let outer = self.targets.enter();
+        let first = self.kept.params.len();
         let params = self.params(room)?;
-        let body = self.body(room, has_default(params.node.as_slice()))?;
+        let body = self.body(room, first)?;
         self.targets.leave(outer);
-        self.scopes.close()?;
-        let levels = params.levels.max(body.levels);
-        let node = Function {
-            span: self.span_from(start),
-            params: params.node,
-            body: body.node,
-        };
-        Ok(part(node, levels))
+        self.function_of(start, first, params.max(body))
     }
 
-    /// A function's body, which opens a scope of its own beside a default.
+    /// The function whose parameters are those from this one on that were kept, and whose body was kept last.
+    #[inline(never)]
+    fn function_of(
+        &mut self,
+        start: u32,
+        first: usize,
+        levels: u32,
+    ) -> Result<Nested<Box<Function>>, Fault> {
+        self.scopes.close()?;
+        let node = Function {
+            span: self.span_from(start),
+            params: take_from(&mut self.kept.params, first)?,
+            body: take_last(&mut self.kept.blocks)?,
+        };
+        Ok(part(Box::new(self.alloc, node)?, levels))
+    }
+
+    /// Keeps a function's body, which opens a scope of its own beside a default of a parameter from this one on. Its statements'
+    /// levels are returned.
     #[inline(never)]
     #[cycle(parser)]
-    fn body(&mut self, room: u32, beside_default: bool) -> Result<Nested<BlockStmt>, Fault> {
+    fn body(&mut self, room: u32, first_param: usize) -> Result<u32, Fault> {
         let start = self.start();
         self.expect(Kind::LeftBrace)?;
+        let beside_default = has_default(self.kept.params.as_slice(), first_param);
         if beside_default {
             self.scopes.open(ScopeKind::Body)?;
         }
-        let stmts = self.statements(room)?;
-        if beside_default {
-            self.scopes.close()?;
-        }
-        self.expect(Kind::RightBrace)?;
-        let node = BlockStmt {
-            span: self.span_from(start),
-            stmts: stmts.node,
-        };
-        Ok(part(node, stmts.levels))
+        let first = self.kept.stmts.len();
+        let levels = self.statements(room)?;
+        self.block_of(start, first, beside_default)?;
+        Ok(levels)
     }
 
+    /// Keeps the parameters of a list, and returns their levels.
     #[inline(never)]
     #[cycle(parser)]
-    fn params(&mut self, room: u32) -> Result<Nested<Vec<Pat>>, Fault> {
-        let mut params = Vec::new(self.alloc);
+    fn params(&mut self, room: u32) -> Result<u32, Fault> {
         let mut levels = 0;
         self.expect(Kind::LeftParen)?;
         for _ in self.place..self.tokens.len() {
@@ -173,38 +194,55 @@ impl<'a> Parser<'a> {
                 break;
             }
             let param = self.param(room)?;
-            levels = levels.max(param.levels);
-            add(&mut params, param.node)?;
+            levels = levels.max(param);
             if !self.take(Kind::Comma) {
                 break;
             }
         }
         self.expect(Kind::RightParen)?;
-        Ok(ended(params, levels))
+        Ok(levels)
     }
 
+    /// Keeps a parameter, and returns its levels.
     #[inline(never)]
     #[cycle(parser)]
-    fn param(&mut self, room: u32) -> Result<Nested<Pat>, Fault> {
+    fn param(&mut self, room: u32) -> Result<u32, Fault> {
+        let start = self.start();
+        self.param_name()?;
+        if !self.take(Kind::Equal) {
+            return Ok(0);
+        }
+        let value = self.assignment(inside(room)?)?;
+        self.with_default(start, value)
+    }
+
+    /// Keeps a parameter, whose name is declared here.
+    #[inline(never)]
+    fn param_name(&mut self) -> Result<(), Fault> {
         let token = self.token();
         if matches!(token.kind, Kind::Dots) {
             return Err(self.leave_out(Construct::Rest));
         }
-        let mut left = self.bound_or_pattern()?;
+        let mut name = self.bound_or_pattern()?;
         if !self.scopes.declare_param()? {
             return Err(redeclared(token.start));
         }
-        left.ctxt = self.scopes.declared_context();
-        if !self.take(Kind::Equal) {
-            return Ok(part(Pat::Ident(left), 0));
+        name.ctxt = self.scopes.declared_context();
+        self.kept.params.push(Pat::Ident(name))?;
+        Ok(())
+    }
+
+    /// Gives the parameter that was kept last a default, and returns the levels of that.
+    #[inline(never)]
+    fn with_default(&mut self, start: u32, value: Nested<Box<Expr>>) -> Result<u32, Fault> {
+        let span = self.span_from(start);
+        let right = value.node;
+        if let Some(Pat::Ident(left)) = self.kept.params.pop() {
+            self.kept
+                .params
+                .push(Pat::Assign(AssignPat { span, left, right }))?;
         }
-        let value = self.assignment(inside(room)?)?;
-        let node = AssignPat {
-            span: self.span_from(token.start),
-            left,
-            right: value.node,
-        };
-        Ok(part(Pat::Assign(node), value.levels))
+        Ok(value.levels)
     }
 
     #[inline(never)]
@@ -213,45 +251,46 @@ impl<'a> Parser<'a> {
         let start = self.start();
         self.scopes.open(ScopeKind::Function)?;
         let outer = self.targets.enter();
-        let params = self.arrow_params(room)?;
+        let first = self.kept.params.len();
+        let levels = self.arrow_params(room)?;
+        let body = self.arrow_body(room, first)?;
+        self.targets.leave(outer);
+        self.arrow_of(start, first, levels, body)
+    }
+
+    /// Keeps the parameters of an arrow, a name by itself or a list in parentheses, and returns their levels. The `=>` is passed.
+    #[inline(never)]
+    #[cycle(parser)]
+    fn arrow_params(&mut self, room: u32) -> Result<u32, Fault> {
+        let levels = if self.is_at(Kind::Name) {
+            self.param(room)?
+        } else {
+            self.params(room)?
+        };
         if self.token().on_new_line {
             return Err(self.refuse());
         }
         self.expect(Kind::Arrow)?;
-        let body = self.arrow_body(room, has_default(params.node.as_slice()))?;
-        self.targets.leave(outer);
-        self.scopes.close()?;
-        self.arrow_of(start, params, body)
+        Ok(levels)
     }
 
-    /// The parameters of an arrow: a name by itself, or a list in parentheses.
-    #[inline(never)]
-    #[cycle(parser)]
-    fn arrow_params(&mut self, room: u32) -> Result<Nested<Vec<Pat>>, Fault> {
-        if !self.is_at(Kind::Name) {
-            return self.params(room);
-        }
-        let only = self.param(room)?;
-        let mut params = Vec::new(self.alloc);
-        add(&mut params, only.node)?;
-        Ok(part(params, only.levels))
-    }
-
+    /// The arrow whose parameters are those from this one on that were kept.
     #[inline(never)]
     fn arrow_of(
-        &self,
+        &mut self,
         start: u32,
-        params: Nested<Vec<Pat>>,
+        first: usize,
+        levels: u32,
         body: Nested<BlockStmtOrExpr>,
     ) -> Result<Nested<Box<Expr>>, Fault> {
-        let levels = body.levels.max(params.levels);
+        self.scopes.close()?;
         let node = ArrowExpr {
             span: self.span_from(start),
-            params: params.node,
+            params: take_from(&mut self.kept.params, first)?,
             body: body.node,
         };
         let node = Box::new(self.alloc, node)?;
-        self.nest(Expr::Arrow(node), levels)
+        self.nest(Expr::Arrow(node), levels.max(body.levels))
     }
 
     #[inline(never)]
@@ -259,13 +298,20 @@ impl<'a> Parser<'a> {
     fn arrow_body(
         &mut self,
         room: u32,
-        beside_default: bool,
+        first_param: usize,
     ) -> Result<Nested<BlockStmtOrExpr>, Fault> {
         if self.is_at(Kind::LeftBrace) {
-            let block = self.body(room, beside_default)?;
-            return Ok(part(BlockStmtOrExpr::BlockStmt(block.node), block.levels));
+            let levels = self.body(room, first_param)?;
+            return self.arrow_block(levels);
         }
         let found = self.assignment(inside(room)?)?;
         Ok(part(BlockStmtOrExpr::Expr(found.node), found.levels))
+    }
+
+    /// The body that was kept last and has so many levels.
+    #[inline(never)]
+    fn arrow_block(&mut self, levels: u32) -> Result<Nested<BlockStmtOrExpr>, Fault> {
+        let block = take_last(&mut self.kept.blocks)?;
+        Ok(part(BlockStmtOrExpr::BlockStmt(block), levels))
     }
 }

@@ -1,5 +1,5 @@
-//! The parser of core text. What builds a node stands in functions of its own, named `.._of`, so that a level of the text takes
-//! little of the stack.
+//! The parser of core text. So that a level of the text takes little of the stack, what builds a node stands in functions of its
+//! own, named `.._of`, and what was read of nodes and lists that have not ended is kept by the parser.
 #![tactic(auto)]
 
 mod contexts;
@@ -8,6 +8,7 @@ mod cursor;
 mod exports;
 mod expression;
 mod function;
+mod kept;
 mod lookahead;
 mod loops;
 mod members;

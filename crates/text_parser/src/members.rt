@@ -1,10 +1,12 @@
 //! Members, calls and `new`.
-use crate::cursor::{Nested, Parser, add_unboxed, ended, inside, part};
+use crate::cursor::{Nested, Parser, inside, part};
+use crate::kept::take_from;
 use swc_ast::{CallExpr, ComputedPropName, Expr, MemberExpr, MemberProp, NewExpr};
 use text_lexer::{Construct, Fault, Kind};
 
 impl<'a> Parser<'a> {
     /// Members, and calls where they may stand.
+    #[inline(always)]
     #[cycle(parser)]
     pub(crate) fn members_behind(
         &mut self,
@@ -16,19 +18,36 @@ impl<'a> Parser<'a> {
         let mut left = first;
         for _ in self.place..self.tokens.len() {
             match self.kind() {
-                Kind::Dot => left = self.named_member(start, left)?,
-                Kind::LeftBracket => left = self.computed_member(room, start, left)?,
-                Kind::LeftParen if with_calls => {
-                    let args = self.arguments(room)?;
-                    left = self.call(start, left, args)?;
-                }
-                Kind::Template | Kind::TemplateHead => {
-                    return Err(self.leave_out(Construct::Template));
-                }
+                Kind::Dot | Kind::LeftBracket | Kind::Template | Kind::TemplateHead => {}
+                Kind::LeftParen if with_calls => {}
                 _ => break,
             }
+            left = self.member_behind(room, start, left)?;
         }
         Ok(left)
+    }
+
+    /// A member or a call.
+    #[inline(never)]
+    #[cycle(parser)]
+    fn member_behind(
+        &mut self,
+        room: u32,
+        start: u32,
+        left: Nested<Box<Expr>>,
+    ) -> Result<Nested<Box<Expr>>, Fault> {
+        match self.kind() {
+            Kind::Dot => self.named_member(start, left),
+            Kind::LeftBracket => self.computed_member(room, start, left),
+            Kind::LeftParen => self.call_behind(room, start, left),
+            _ => self.no_member(left),
+        }
+    }
+
+    /// Refuses the template behind a tag.
+    #[inline(never)]
+    fn no_member(&self, _tag: Nested<Box<Expr>>) -> Result<Nested<Box<Expr>>, Fault> {
+        Err(self.leave_out(Construct::Template))
     }
 
     #[inline(never)]
@@ -47,18 +66,34 @@ impl<'a> Parser<'a> {
         self.nest(Expr::Member(node), levels)
     }
 
+    /// `(a, b)`
     #[inline(never)]
-    fn call(
-        &self,
+    #[cycle(parser)]
+    fn call_behind(
+        &mut self,
+        room: u32,
         start: u32,
         callee: Nested<Box<Expr>>,
-        args: Nested<Vec<Expr>>,
     ) -> Result<Nested<Box<Expr>>, Fault> {
-        let levels = callee.levels.max(args.levels);
+        let first = self.kept.exprs.len();
+        let args = self.arguments(room);
+        self.call(start, callee, first, args)
+    }
+
+    /// The call with the arguments from this one on that were kept.
+    #[inline(never)]
+    fn call(
+        &mut self,
+        start: u32,
+        callee: Nested<Box<Expr>>,
+        first: usize,
+        args: Result<u32, Fault>,
+    ) -> Result<Nested<Box<Expr>>, Fault> {
+        let levels = callee.levels.max(args?);
         let node = CallExpr {
             span: self.span_from(start),
             callee: callee.node,
-            args: args.node,
+            args: take_from(&mut self.kept.exprs, first)?,
         };
         self.nest(Expr::Call(node), levels)
     }
@@ -85,21 +120,22 @@ impl<'a> Parser<'a> {
         obj: Nested<Box<Expr>>,
     ) -> Result<Nested<Box<Expr>>, Fault> {
         let opening = self.start();
-        self.expect(Kind::LeftBracket)?;
-        let key = self.expression(inside(room)?)?;
-        self.expect(Kind::RightBracket)?;
+        self.bump();
+        let key = self.expression_inside(room);
         self.member_of_key(start, obj, opening, key)
     }
 
     /// The member whose key's brackets begin at an offset and end here.
     #[inline(never)]
     fn member_of_key(
-        &self,
+        &mut self,
         start: u32,
         obj: Nested<Box<Expr>>,
         opening: u32,
-        key: Nested<Box<Expr>>,
+        key: Result<Nested<Box<Expr>>, Fault>,
     ) -> Result<Nested<Box<Expr>>, Fault> {
+        let key = key?;
+        self.expect(Kind::RightBracket)?;
         let prop = ComputedPropName {
             span: self.span_from(opening),
             expr: key.node,
@@ -107,11 +143,11 @@ impl<'a> Parser<'a> {
         self.member(start, obj, part(MemberProp::Computed(prop), key.levels))
     }
 
+    /// Keeps the arguments of a call, and returns their levels.
     #[inline(never)]
     #[cycle(parser)]
-    fn arguments(&mut self, room: u32) -> Result<Nested<Vec<Expr>>, Fault> {
+    fn arguments(&mut self, room: u32) -> Result<u32, Fault> {
         self.expect(Kind::LeftParen)?;
-        let mut args = Vec::new(self.alloc);
         let mut levels = 0;
         for _ in self.place..self.tokens.len() {
             if self.is_at(Kind::RightParen) {
@@ -122,13 +158,13 @@ impl<'a> Parser<'a> {
             }
             let arg = self.assignment(inside(room)?)?;
             levels = levels.max(arg.levels);
-            add_unboxed(&mut args, arg.node)?;
+            self.keep_expr(arg.node)?;
             if !self.take(Kind::Comma) {
                 break;
             }
         }
         self.expect(Kind::RightParen)?;
-        Ok(ended(args, levels))
+        Ok(levels)
     }
 
     #[inline(never)]
@@ -138,30 +174,41 @@ impl<'a> Parser<'a> {
         if matches!(self.next_kind(), Kind::Dot) {
             return Err(self.leave_out(Construct::Meta));
         }
-        self.expect(Kind::New)?;
-        let callee_start = self.start();
-        let first = self.primary(inside(room)?)?;
-        let callee = self.members_behind(inside(room)?, callee_start, first, false)?;
+        self.bump();
+        let inner = inside(room)?;
+        let callee = self.constructor(inner)?;
+        let first = self.kept.exprs.len();
         let args = if self.is_at(Kind::LeftParen) {
-            self.arguments(inside(room)?)?
+            self.arguments(inner)
         } else {
-            part(Vec::new(self.alloc), 0)
+            Ok(0)
         };
-        self.new_of(start, callee, args)
+        self.new_of(start, callee, first, args)
     }
 
+    /// What stands behind `new`, with its members.
+    #[inline(never)]
+    #[cycle(parser)]
+    fn constructor(&mut self, room: u32) -> Result<Nested<Box<Expr>>, Fault> {
+        let start = self.start();
+        let first = self.primary(room)?;
+        self.members_behind(room, start, first, false)
+    }
+
+    /// The `new` with the arguments from this one on that were kept.
     #[inline(never)]
     fn new_of(
-        &self,
+        &mut self,
         start: u32,
         callee: Nested<Box<Expr>>,
-        args: Nested<Vec<Expr>>,
+        first: usize,
+        args: Result<u32, Fault>,
     ) -> Result<Nested<Box<Expr>>, Fault> {
-        let levels = callee.levels.max(args.levels);
+        let levels = callee.levels.max(args?);
         let node = NewExpr {
             span: self.span_from(start),
             callee: callee.node,
-            args: args.node,
+            args: take_from(&mut self.kept.exprs, first)?,
         };
         self.nest(Expr::New(node), levels)
     }

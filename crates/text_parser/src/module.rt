@@ -13,7 +13,7 @@ impl<'a> Parser<'a> {
         match self.kind() {
             Kind::Import if !is_call => Ok(ModuleItem::ModuleDecl(self.import_decl()?)),
             Kind::Export => Ok(ModuleItem::ModuleDecl(self.export_item(room)?)),
-            _ => Ok(ModuleItem::Stmt(self.listed(room)?.node)),
+            _ => Ok(ModuleItem::Stmt(self.item_stmt(room)?)),
         }
     }
 

@@ -9,6 +9,7 @@ fn is_restricted(name: &str) -> bool {
 }
 
 /// What an operand that begins at an offset may be written to as.
+#[inline(never)]
 pub(crate) fn target(operand: Nested<Box<Expr>>, at: u32) -> Result<AssignTarget, Fault> {
     match Box::into_inner(operand.node).into_target() {
         Ok(AssignTarget::Ident(name)) => {

@@ -1,111 +1,127 @@
 //! Objects.
-use crate::cursor::{Nested, Parser, add, inside, part};
+use crate::cursor::{Nested, Parser, inside};
+use crate::kept::{take_from, take_last};
 use swc_ast::{
     ComputedPropName, Expr, Function, KeyValueProp, MethodProp, ObjectLit, Prop, PropName,
-    PropOrSpread, SpreadElement,
+    PropOrSpread, Span, SpreadElement,
 };
 use text_lexer::{Construct, Fault, Kind};
-
-#[inline(never)]
-fn key_value(key: Nested<PropName>, value: Nested<Box<Expr>>) -> Nested<PropOrSpread> {
-    let levels = key.levels.max(value.levels);
-    let node = KeyValueProp {
-        key: key.node,
-        value: value.node,
-    };
-    part(PropOrSpread::Prop(Prop::KeyValue(node)), levels)
-}
 
 impl<'a> Parser<'a> {
     #[inline(never)]
     #[cycle(parser)]
     pub(crate) fn object(&mut self, room: u32) -> Result<Nested<Box<Expr>>, Fault> {
         let start = self.start();
-        self.expect(Kind::LeftBrace)?;
-        let mut props = Vec::new(self.alloc);
+        self.bump();
+        let first = self.kept.props.len();
         let mut levels = 0;
         for _ in self.place..self.tokens.len() {
             if self.is_at(Kind::RightBrace) {
                 break;
             }
             let prop = self.property(room)?;
-            levels = levels.max(prop.levels);
-            add(&mut props, prop.node)?;
+            levels = levels.max(prop);
             if !self.take(Kind::Comma) {
                 break;
             }
         }
-        self.expect(Kind::RightBrace)?;
-        self.object_of(start, props, levels)
+        self.object_of(start, first, levels)
     }
 
+    /// The object of the properties from this one on that were kept, which ends here.
     #[inline(never)]
     fn object_of(
-        &self,
+        &mut self,
         start: u32,
-        items: Vec<PropOrSpread>,
+        first: usize,
         levels: u32,
     ) -> Result<Nested<Box<Expr>>, Fault> {
-        let mut props = items;
-        props.shrink_to_fit();
+        self.expect(Kind::RightBrace)?;
+        let props = take_from(&mut self.kept.props, first)?;
         let span = self.span_from(start);
         self.nest(Expr::Object(ObjectLit { span, props }), levels)
     }
 
-    /// A property. Its levels are those of its expressions.
+    /// Keeps a property. The levels of its expressions are returned.
     #[inline(never)]
     #[cycle(parser)]
-    fn property(&mut self, room: u32) -> Result<Nested<PropOrSpread>, Fault> {
+    fn property(&mut self, room: u32) -> Result<u32, Fault> {
         let token = self.token();
-        if self.is_at(Kind::Dots) {
+        if matches!(token.kind, Kind::Dots) {
             return self.spread(room);
         }
         let behind = self.next_kind();
         if matches!(token.kind, Kind::Name) && matches!(behind, Kind::Comma | Kind::RightBrace) {
             return self.shorthand();
         }
-        self.refuse_special_method()?;
-        let key = self.key(room)?;
+        let levels = self.key(room)?;
         if self.is_at(Kind::LeftParen) {
             let function = self.function(room, token.start)?;
-            return self.method(key, function);
+            return self.method(levels, function);
         }
+        self.value_of_key(room, levels)
+    }
+
+    #[inline(never)]
+    fn shorthand(&mut self) -> Result<u32, Fault> {
+        let name = self.ident()?;
+        self.kept
+            .props
+            .push(PropOrSpread::Prop(Prop::Shorthand(name)))?;
+        Ok(0)
+    }
+
+    /// Keeps the method whose key was kept last and has so many levels.
+    #[inline(never)]
+    fn method(&mut self, levels: u32, function: Nested<Box<Function>>) -> Result<u32, Fault> {
+        let node = MethodProp {
+            key: take_last(&mut self.kept.keys)?,
+            function: function.node,
+        };
+        self.kept
+            .props
+            .push(PropOrSpread::Prop(Prop::Method(node)))?;
+        Ok(levels.max(function.levels))
+    }
+
+    /// `: a` behind the key that was kept last and has so many levels.
+    #[inline(never)]
+    #[cycle(parser)]
+    fn value_of_key(&mut self, room: u32, levels: u32) -> Result<u32, Fault> {
         self.expect(Kind::Colon)?;
         let value = self.assignment(inside(room)?)?;
-        Ok(key_value(key, value))
+        self.key_value(levels, value)
     }
 
     #[inline(never)]
-    fn shorthand(&mut self) -> Result<Nested<PropOrSpread>, Fault> {
-        let name = self.ident()?;
-        Ok(part(PropOrSpread::Prop(Prop::Shorthand(name)), 0))
-    }
-
-    #[inline(never)]
-    fn method(
-        &self,
-        key: Nested<PropName>,
-        function: Nested<Function>,
-    ) -> Result<Nested<PropOrSpread>, Fault> {
-        let levels = key.levels.max(function.levels);
-        let node = MethodProp {
-            key: key.node,
-            function: Box::new(self.alloc, function.node)?,
+    fn key_value(&mut self, levels: u32, value: Nested<Box<Expr>>) -> Result<u32, Fault> {
+        let node = KeyValueProp {
+            key: take_last(&mut self.kept.keys)?,
+            value: value.node,
         };
-        Ok(part(PropOrSpread::Prop(Prop::Method(node)), levels))
+        self.kept
+            .props
+            .push(PropOrSpread::Prop(Prop::KeyValue(node)))?;
+        Ok(levels.max(value.levels))
     }
 
     /// `...a`
     #[inline(never)]
     #[cycle(parser)]
-    fn spread(&mut self, room: u32) -> Result<Nested<PropOrSpread>, Fault> {
+    fn spread(&mut self, room: u32) -> Result<u32, Fault> {
         let start = self.start();
-        self.expect(Kind::Dots)?;
+        self.bump();
         let dot3_token = self.span_from(start);
         let value = self.assignment(inside(room)?)?;
+        self.spread_of(dot3_token, value)
+    }
+
+    #[inline(never)]
+    fn spread_of(&mut self, dot3_token: Span, value: Nested<Box<Expr>>) -> Result<u32, Fault> {
         let expr = value.node;
         let node = PropOrSpread::Spread(SpreadElement { dot3_token, expr });
-        Ok(part(node, value.levels))
+        self.kept.props.push(node)?;
+        Ok(value.levels)
     }
 
     /// Refuses getters, setters, generators and asynchronous methods.
@@ -134,25 +150,41 @@ impl<'a> Parser<'a> {
         }
     }
 
+    /// Keeps a key, and returns its levels.
     #[inline(never)]
     #[cycle(parser)]
-    fn key(&mut self, room: u32) -> Result<Nested<PropName>, Fault> {
+    fn key(&mut self, room: u32) -> Result<u32, Fault> {
+        if !self.is_at(Kind::LeftBracket) {
+            return self.plain_key();
+        }
         let start = self.start();
+        self.bump();
+        let found = self.assignment(inside(room)?)?;
+        self.computed_key(start, found)
+    }
+
+    /// Keeps a key that is no expression.
+    #[inline(never)]
+    fn plain_key(&mut self) -> Result<u32, Fault> {
+        self.refuse_special_method()?;
         let key = match self.kind() {
             Kind::Number => PropName::Num(self.number()?),
             Kind::Text => PropName::Str(self.text_literal()?),
-            Kind::LeftBracket => {
-                self.bump();
-                let inner = self.assignment(inside(room)?)?;
-                self.expect(Kind::RightBracket)?;
-                let name = ComputedPropName {
-                    span: self.span_from(start),
-                    expr: inner.node,
-                };
-                return Ok(part(PropName::Computed(name), inner.levels));
-            }
             _ => PropName::Ident(self.word()?),
         };
-        Ok(part(key, 0))
+        self.kept.keys.push(key)?;
+        Ok(0)
+    }
+
+    /// Keeps a key that is an expression. Its brackets begin at an offset and end here.
+    #[inline(never)]
+    fn computed_key(&mut self, start: u32, found: Nested<Box<Expr>>) -> Result<u32, Fault> {
+        self.expect(Kind::RightBracket)?;
+        let key = ComputedPropName {
+            span: self.span_from(start),
+            expr: found.node,
+        };
+        self.kept.keys.push(PropName::Computed(key))?;
+        Ok(found.levels)
     }
 }

@@ -53,7 +53,7 @@ pub fn parse_script(alloc: Global, text: &str, mark: Mark) -> Result<Script, Fau
         if parser.is_at(Kind::End) {
             break;
         }
-        body.push(parser.listed(ROOM)?.node)?;
+        body.push(parser.item_stmt(ROOM)?)?;
     }
     parser.expect(Kind::End)?;
     parser.scopes.close()?;

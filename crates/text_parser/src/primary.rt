@@ -1,11 +1,13 @@
 //! Names, literals, templates, arrays and parentheses.
-use crate::cursor::{Nested, Parser, add, add_unboxed, inside, part};
+use crate::cursor::{Nested, Parser, inside};
+use crate::kept::take_from;
 use swc_ast::{
     ArrayLit, Bool, Expr, ExprOrSpread, Lit, Null, Number, Str, ThisExpr, Tpl, TplElement,
 };
 use text_lexer::{Construct, Fault, Kind, Token};
 
 impl<'a> Parser<'a> {
+    #[inline(always)]
     #[cycle(parser)]
     pub(crate) fn primary(&mut self, room: u32) -> Result<Nested<Box<Expr>>, Fault> {
         match self.kind() {
@@ -112,53 +114,43 @@ impl<'a> Parser<'a> {
     #[cycle(parser)]
     fn template(&mut self, room: u32) -> Result<Nested<Box<Expr>>, Fault> {
         let start = self.start();
-        let mut quasis = Vec::new(self.alloc);
-        let mut exprs = Vec::new(self.alloc);
+        let first_quasi = self.kept.quasis.len();
+        let first = self.kept.exprs.len();
         let mut levels = 0;
         for _ in self.place..self.tokens.len() {
-            if self.add_quasi(&mut quasis)? {
+            if self.quasi()? {
                 break;
             }
             let found = self.expression(inside(room)?)?;
             levels = levels.max(found.levels);
-            add_unboxed(&mut exprs, found.node)?;
+            self.keep_expr(found.node)?;
             if !matches!(self.kind(), Kind::TemplateMiddle | Kind::TemplateTail) {
                 return Err(self.refuse());
             }
         }
-        self.template_of(start, quasis, exprs, levels)
+        self.template_of(start, first_quasi, first, levels)
     }
 
+    /// The template of the texts and of the expressions from these on that were kept.
     #[inline(never)]
     fn template_of(
-        &self,
+        &mut self,
         start: u32,
-        quasis: Vec<TplElement>,
-        exprs: Vec<Expr>,
+        first_quasi: usize,
+        first: usize,
         levels: u32,
     ) -> Result<Nested<Box<Expr>>, Fault> {
-        let mut node = Tpl {
+        let node = Tpl {
             span: self.span_from(start),
-            quasis,
-            exprs,
+            quasis: take_from(&mut self.kept.quasis, first_quasi)?,
+            exprs: take_from(&mut self.kept.exprs, first)?,
         };
-        node.quasis.shrink_to_fit();
-        node.exprs.shrink_to_fit();
         self.nest(Expr::Tpl(node), levels)
     }
 
-    /// Adds a template's part, which is passed. Whether it is the last is returned.
+    /// Keeps a template's text, which is passed, and says whether it is the last.
     #[inline(never)]
-    fn add_quasi(&mut self, quasis: &mut Vec<TplElement>) -> Result<bool, Fault> {
-        let quasi = self.quasi()?;
-        let tail = quasi.tail;
-        add(quasis, quasi)?;
-        Ok(tail)
-    }
-
-    /// A template's part, which is passed.
-    #[inline(never)]
-    fn quasi(&mut self) -> Result<TplElement, Fault> {
+    fn quasi(&mut self) -> Result<bool, Fault> {
         let token = self.token();
         let tail = matches!(token.kind, Kind::Template | Kind::TemplateTail);
         let behind: u32 = if tail { 1 } else { 2 };
@@ -166,7 +158,8 @@ impl<'a> Parser<'a> {
         self.bump();
         let mut span = self.span_from(token.start.saturating_add(1));
         span.hi = span.hi.saturating_sub(behind).max(span.lo);
-        Ok(TplElement { span, tail, cooked })
+        self.kept.quasis.push(TplElement { span, tail, cooked })?;
+        Ok(tail)
     }
 
     /// Parentheses. A run of them takes no deeper recursion than one.
@@ -174,6 +167,19 @@ impl<'a> Parser<'a> {
     #[cycle(parser)]
     fn parenthesized(&mut self, room: u32) -> Result<Nested<Box<Expr>>, Fault> {
         let first = self.place;
+        self.pass_opening()?;
+        let inner = inside(room)?;
+        let second = self.place;
+        let found = self.assignment(inner)?;
+        if second.saturating_sub(first) > 1 {
+            return self.behind_run(inner, first, second, found);
+        }
+        self.behind_innermost(inner, second, found)
+    }
+
+    /// Passes a run of opening parentheses.
+    #[inline(never)]
+    fn pass_opening(&mut self) -> Result<(), Fault> {
         self.bump();
         for _ in self.place..self.tokens.len() {
             if !self.is_at(Kind::LeftParen) || self.is_at_arrow() {
@@ -184,17 +190,46 @@ impl<'a> Parser<'a> {
             }
             self.bump();
         }
-        let count = self.place.saturating_sub(first);
-        let mut found = self.expression(inside(room)?)?;
-        for i in 0..count {
-            self.expect(Kind::RightParen)?;
-            found.wrapped = true;
-            let open = count - i;
-            if open > 1 {
-                let opening = first.saturating_add(open).saturating_sub(1);
-                let start = self.token_at(opening).start;
-                found = self.behind_parentheses(inside(room)?, start, found)?;
-            }
+        Ok(())
+    }
+
+    /// An expression in parentheses that end here.
+    #[inline(never)]
+    fn wrapped(&mut self, read: Nested<Box<Expr>>) -> Result<Nested<Box<Expr>>, Fault> {
+        self.expect(Kind::RightParen)?;
+        let mut found = read;
+        found.wrapped = true;
+        Ok(found)
+    }
+
+    /// What goes on behind an assignment that begins at a place, up to where the parentheses round it end.
+    #[inline(never)]
+    #[cycle(parser)]
+    fn behind_innermost(
+        &mut self,
+        room: u32,
+        place: usize,
+        found: Nested<Box<Expr>>,
+    ) -> Result<Nested<Box<Expr>>, Fault> {
+        let start = self.token_at(place).start;
+        let whole = self.expression_behind(room, start, found)?;
+        self.wrapped(whole)
+    }
+
+    /// The same up to where a run of parentheses ends, which begins at a place. The assignment begins at another.
+    #[inline(never)]
+    #[cycle(parser)]
+    fn behind_run(
+        &mut self,
+        room: u32,
+        first: usize,
+        second: usize,
+        innermost: Nested<Box<Expr>>,
+    ) -> Result<Nested<Box<Expr>>, Fault> {
+        let mut found = self.behind_innermost(room, second, innermost)?;
+        for i in 1..second.saturating_sub(first) {
+            let start = self.token_at(second.saturating_sub(i)).start;
+            found = self.behind_parentheses(room, start, found)?;
         }
         Ok(found)
     }
@@ -209,61 +244,84 @@ impl<'a> Parser<'a> {
         found: Nested<Box<Expr>>,
     ) -> Result<Nested<Box<Expr>>, Fault> {
         let operand = self.operand_behind(room, start, found)?;
-        let operators = self.assignment_behind(room, start, operand)?;
-        self.expression_behind(room, start, operators)
+        let left = self.binary_behind(room, start, operand, 0)?;
+        self.behind_operators(room, start, left)
+    }
+
+    #[inline(never)]
+    #[cycle(parser)]
+    fn behind_operators(
+        &mut self,
+        room: u32,
+        start: u32,
+        left: Nested<Box<Expr>>,
+    ) -> Result<Nested<Box<Expr>>, Fault> {
+        let value = if self.is_at(Kind::Question) {
+            self.choice_behind(room, start, left)?
+        } else {
+            self.value_behind(room, start, left)?
+        };
+        let whole = self.expression_behind(room, start, value)?;
+        self.wrapped(whole)
     }
 
     #[inline(never)]
     #[cycle(parser)]
     fn array(&mut self, room: u32) -> Result<Nested<Box<Expr>>, Fault> {
         let start = self.start();
-        self.expect(Kind::LeftBracket)?;
-        let mut elems = Vec::new(self.alloc);
+        self.bump();
+        let first = self.kept.elems.len();
         let mut levels = 0;
         for _ in self.place..self.tokens.len() {
             if self.is_at(Kind::RightBracket) {
                 break;
             }
             if self.take(Kind::Comma) {
-                add(&mut elems, None)?;
+                self.keep_item(None)?;
                 continue;
             }
             let item = self.item(room)?;
-            levels = levels.max(item.levels);
-            add(&mut elems, Some(item.node))?;
+            levels = levels.max(item);
             if !self.take(Kind::Comma) {
                 break;
             }
         }
-        self.expect(Kind::RightBracket)?;
-        self.array_of(start, elems, levels)
+        self.array_of(start, first, levels)
     }
 
+    /// The array of the items from this one on that were kept, which ends here.
     #[inline(never)]
     fn array_of(
-        &self,
+        &mut self,
         start: u32,
-        items: Vec<Option<ExprOrSpread>>,
+        first: usize,
         levels: u32,
     ) -> Result<Nested<Box<Expr>>, Fault> {
-        let mut elems = items;
-        elems.shrink_to_fit();
+        self.expect(Kind::RightBracket)?;
+        let elems = take_from(&mut self.kept.elems, first)?;
         let span = self.span_from(start);
         self.nest(Expr::Array(ArrayLit { span, elems }), levels)
     }
 
-    /// An item of an array, which may be spread.
+    /// Keeps an item of an array, which may be spread, and returns its levels.
     #[inline(never)]
     #[cycle(parser)]
-    fn item(&mut self, room: u32) -> Result<Nested<ExprOrSpread>, Fault> {
+    fn item(&mut self, room: u32) -> Result<u32, Fault> {
         let start = self.start();
-        let spread = if self.take(Kind::Dots) {
-            Some(self.span_from(start))
-        } else {
-            None
-        };
+        let mut spread = None;
+        if self.take(Kind::Dots) {
+            spread = Some(self.span_from(start));
+        }
         let item = self.assignment(inside(room)?)?;
         let expr = item.node;
-        Ok(part(ExprOrSpread { spread, expr }, item.levels))
+        self.keep_item(Some(ExprOrSpread { spread, expr }))?;
+        Ok(item.levels)
+    }
+
+    /// Keeps an item of an array, or a hole.
+    #[inline(never)]
+    fn keep_item(&mut self, item: Option<ExprOrSpread>) -> Result<(), Fault> {
+        self.kept.elems.push(item)?;
+        Ok(())
     }
 }

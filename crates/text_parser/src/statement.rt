@@ -1,5 +1,6 @@
 //! Statements and declarations.
-use crate::cursor::{Nested, Parser, add, inside, nest_stmt, part, take_from};
+use crate::cursor::{Nested, Parser, inside, part};
+use crate::kept::{take_from, take_last};
 use crate::scopes::ScopeKind;
 use crate::targets::Target;
 use swc_ast::{
@@ -9,32 +10,30 @@ use swc_ast::{
 use text_lexer::{Construct, Fault, Kind, Token};
 
 impl<'a> Parser<'a> {
-    /// The statements up to a brace or a case.
+    /// Keeps the statements up to a brace or a case, and returns their levels.
+    #[inline(never)]
     #[cycle(parser)]
-    pub(crate) fn statements(&mut self, room: u32) -> Result<Nested<Vec<Stmt>>, Fault> {
-        let first = self.stmts.len();
+    pub(crate) fn statements(&mut self, room: u32) -> Result<u32, Fault> {
         let mut levels = 0;
         for _ in self.place..self.tokens.len() {
             if matches!(self.kind(), Kind::RightBrace | Kind::Case | Kind::Default) {
                 break;
             }
             let next = self.listed(inside(room)?)?;
-            levels = levels.max(next.levels);
-            self.keep(next.node)?;
+            levels = levels.max(next);
         }
-        Ok(part(take_from(&mut self.stmts, first)?, levels))
+        Ok(levels)
     }
 
-    /// Keeps a statement of a list that has not ended.
-    #[inline(never)]
-    fn keep(&mut self, stmt: Stmt) -> Result<(), Fault> {
-        self.stmts.push(stmt)?;
-        Ok(())
+    /// A statement of the list of a script or a module.
+    pub(crate) fn item_stmt(&mut self, room: u32) -> Result<Stmt, Fault> {
+        self.listed(room)?;
+        take_last(&mut self.kept.stmts)
     }
 
-    /// A statement of a list: also what a list alone may declare.
+    /// Keeps a statement of a list: also what a list alone may declare. Its levels are returned.
     #[cycle(parser)]
-    pub(crate) fn listed(&mut self, room: u32) -> Result<Nested<Stmt>, Fault> {
+    pub(crate) fn listed(&mut self, room: u32) -> Result<u32, Fault> {
         match self.kind() {
             Kind::Function => self.function_stmt(room),
             Kind::Let | Kind::Const => self.variable_stmt(room),
@@ -44,55 +43,63 @@ impl<'a> Parser<'a> {
 
     #[inline(never)]
     #[cycle(parser)]
-    fn variable_stmt(&mut self, room: u32) -> Result<Nested<Stmt>, Fault> {
+    fn variable_stmt(&mut self, room: u32) -> Result<u32, Fault> {
         let start = self.start();
         let decl = self.declarators(room, false)?;
-        self.semicolon()?;
         self.variable_stmt_of(start, decl)
     }
 
     #[inline(never)]
-    fn variable_stmt_of(&self, start: u32, decl: Nested<VarDecl>) -> Result<Nested<Stmt>, Fault> {
+    fn variable_stmt_of(&mut self, start: u32, decl: Nested<VarDecl>) -> Result<u32, Fault> {
+        self.semicolon()?;
         let mut node = decl.node;
         node.span = self.span_from(start);
-        nest_stmt(Stmt::Decl(Decl::Var(node)), decl.levels)
+        self.keep(Stmt::Decl(Decl::Var(node)), decl.levels)
     }
 
     #[inline(never)]
     #[cycle(parser)]
-    fn block_stmt(&mut self, room: u32) -> Result<Nested<Stmt>, Fault> {
-        let start = self.start();
-        self.expect(Kind::LeftBrace)?;
-        self.scopes.open(ScopeKind::Block)?;
-        let stmts = self.statements(room)?;
-        self.scopes.close()?;
-        self.expect(Kind::RightBrace)?;
-        self.block_stmt_of(start, stmts)
+    fn block_stmt(&mut self, room: u32) -> Result<u32, Fault> {
+        let levels = self.block(room, ScopeKind::Block)?;
+        self.block_stmt_of(levels)
     }
 
+    /// Keeps the block that was kept last as a statement.
     #[inline(never)]
-    fn block_stmt_of(&self, start: u32, stmts: Nested<Vec<Stmt>>) -> Result<Nested<Stmt>, Fault> {
-        let node = BlockStmt {
-            span: self.span_from(start),
-            stmts: stmts.node,
-        };
-        nest_stmt(Stmt::Block(node), stmts.levels)
+    fn block_stmt_of(&mut self, levels: u32) -> Result<u32, Fault> {
+        let block = take_last(&mut self.kept.blocks)?;
+        self.keep(Stmt::Block(block), levels)
     }
 
-    /// A block, which opens a scope.
+    /// Keeps a block, which opens a scope, and returns the levels of its statements.
+    #[inline(never)]
     #[cycle(parser)]
-    pub(crate) fn block(&mut self, room: u32, kind: ScopeKind) -> Result<Nested<BlockStmt>, Fault> {
+    pub(crate) fn block(&mut self, room: u32, kind: ScopeKind) -> Result<u32, Fault> {
         let start = self.start();
         self.expect(Kind::LeftBrace)?;
         self.scopes.open(kind)?;
-        let stmts = self.statements(room)?;
-        self.scopes.close()?;
+        let first = self.kept.stmts.len();
+        let levels = self.statements(room)?;
+        self.block_of(start, first, true)?;
+        Ok(levels)
+    }
+
+    /// Keeps the block of the statements from this one on that were kept, which ends here. A scope may end with it.
+    #[inline(never)]
+    pub(crate) fn block_of(
+        &mut self,
+        start: u32,
+        first: usize,
+        is_scope: bool,
+    ) -> Result<(), Fault> {
+        if is_scope {
+            self.scopes.close()?;
+        }
         self.expect(Kind::RightBrace)?;
-        let node = BlockStmt {
-            span: self.span_from(start),
-            stmts: stmts.node,
-        };
-        Ok(part(node, stmts.levels))
+        let stmts = take_from(&mut self.kept.stmts, first)?;
+        let span = self.span_from(start);
+        self.kept.blocks.push(BlockStmt { span, stmts })?;
+        Ok(())
     }
 
     /// `var`, `let` or `const` with its semicolon, whose names are exported.
@@ -120,27 +127,32 @@ impl<'a> Parser<'a> {
             _ => VarDeclKind::Const,
         };
         self.bump();
-        let mut decls = Vec::new(self.alloc);
+        let first = self.kept.decls.len();
         let mut levels = 0;
         for _ in self.place..self.tokens.len() {
             let next = self.declarator(room, kind, is_exported)?;
-            levels = levels.max(next.levels);
-            add(&mut decls, next.node)?;
+            levels = levels.max(next);
             if !self.take(Kind::Comma) {
                 break;
             }
         }
-        Ok(part(self.variables(start, kind, decls), levels))
+        self.variables(start, kind, first, levels)
     }
 
     #[inline(never)]
-    fn variables(&self, start: u32, kind: VarDeclKind, list: Vec<VarDeclarator>) -> VarDecl {
-        let mut decls = list;
-        decls.shrink_to_fit();
+    fn variables(
+        &mut self,
+        start: u32,
+        kind: VarDeclKind,
+        first: usize,
+        levels: u32,
+    ) -> Result<Nested<VarDecl>, Fault> {
+        let decls = take_from(&mut self.kept.decls, first)?;
         let span = self.span_from(start);
-        VarDecl { span, kind, decls }
+        Ok(part(VarDecl { span, kind, decls }, levels))
     }
 
+    /// Keeps a variable with its value, if it has one, and returns the levels of that.
     #[inline(never)]
     #[cycle(parser)]
     fn declarator(
@@ -148,36 +160,50 @@ impl<'a> Parser<'a> {
         room: u32,
         kind: VarDeclKind,
         is_exported: bool,
-    ) -> Result<Nested<VarDeclarator>, Fault> {
+    ) -> Result<u32, Fault> {
         let start = self.start();
-        let name = self.variable(kind, is_exported)?;
-        let mut init = None;
-        let mut levels = 0;
+        self.variable(kind, is_exported)?;
         if self.take(Kind::Equal) {
             let value = self.assignment(inside(room)?)?;
-            levels = value.levels;
-            init = Some(value.node);
-        } else if matches!(kind, VarDeclKind::Const) {
+            return Ok(self.initialized(start, value));
+        }
+        if matches!(kind, VarDeclKind::Const) {
             return Err(self.refuse());
         }
-        let span = self.span_from(start);
-        Ok(part(VarDeclarator { span, name, init }, levels))
+        Ok(0)
     }
 
-    /// The name of a variable, which is declared here.
+    /// Gives the variable that was kept last its value, and returns the levels of that.
     #[inline(never)]
-    fn variable(&mut self, kind: VarDeclKind, is_exported: bool) -> Result<Ident, Fault> {
+    fn initialized(&mut self, start: u32, value: Nested<Box<Expr>>) -> u32 {
+        let span = self.span_from(start);
+        let levels = value.levels;
+        let init = value.node;
+        if let Some(last) = self.kept.decls.last_mut() {
+            last.span = span;
+            last.init = Some(init);
+        }
+        levels
+    }
+
+    /// Keeps a variable, whose name is declared here.
+    #[inline(never)]
+    fn variable(&mut self, kind: VarDeclKind, is_exported: bool) -> Result<(), Fault> {
         let token = self.token();
         let mut name = self.bound_or_pattern()?;
         name.ctxt = self.declare(kind, token)?;
         if is_exported {
             self.export(token)?;
         }
-        Ok(name)
+        let span = self.span_from(token.start);
+        let init = None;
+        self.kept.decls.push(VarDeclarator { span, name, init })?;
+        Ok(())
     }
 
+    /// Keeps a statement, and returns its levels.
     #[cycle(parser)]
-    pub(crate) fn statement(&mut self, room: u32) -> Result<Nested<Stmt>, Fault> {
+    pub(crate) fn statement(&mut self, room: u32) -> Result<u32, Fault> {
         match self.kind() {
             Kind::LeftBrace => self.block_stmt(room),
             Kind::Semicolon => self.empty(),
@@ -204,7 +230,7 @@ impl<'a> Parser<'a> {
 
     /// Refuses what begins no statement.
     #[inline(never)]
-    fn no_statement(&self) -> Result<Nested<Stmt>, Fault> {
+    fn no_statement(&self) -> Result<u32, Fault> {
         Err(match self.kind() {
             Kind::With => self.leave_out(Construct::With),
             Kind::Debugger => self.leave_out(Construct::Debugger),
@@ -213,39 +239,43 @@ impl<'a> Parser<'a> {
     }
 
     #[inline(never)]
-    fn empty(&mut self) -> Result<Nested<Stmt>, Fault> {
+    fn empty(&mut self) -> Result<u32, Fault> {
         let start = self.start();
         self.bump();
         let span = self.span_from(start);
-        nest_stmt(Stmt::Empty(EmptyStmt { span }), 0)
+        self.keep(Stmt::Empty(EmptyStmt { span }), 0)
     }
 
     #[inline(never)]
     #[cycle(parser)]
-    fn expression_stmt(&mut self, room: u32) -> Result<Nested<Stmt>, Fault> {
+    fn expression_stmt(&mut self, room: u32) -> Result<u32, Fault> {
         let start = self.start();
         let expr = self.expression(inside(room)?)?;
-        self.semicolon()?;
         self.expression_stmt_of(start, expr)
     }
 
     #[inline(never)]
-    fn expression_stmt_of(
-        &self,
-        start: u32,
-        expr: Nested<Box<Expr>>,
-    ) -> Result<Nested<Stmt>, Fault> {
+    fn expression_stmt_of(&mut self, start: u32, expr: Nested<Box<Expr>>) -> Result<u32, Fault> {
+        self.semicolon()?;
         let node = ExprStmt {
             span: self.span_from(start),
             expr: expr.node,
         };
-        nest_stmt(Stmt::Expr(node), expr.levels)
+        self.keep(Stmt::Expr(node), expr.levels)
     }
 
     #[inline(never)]
     #[cycle(parser)]
-    fn labeled(&mut self, room: u32) -> Result<Nested<Stmt>, Fault> {
+    fn labeled(&mut self, room: u32) -> Result<u32, Fault> {
         let token = self.token();
+        let label = self.label(token)?;
+        let body = self.boxed_statement(room);
+        self.labeled_of(token, label, body)
+    }
+
+    /// A label and its colon, which jumps may lead to from here on.
+    #[inline(never)]
+    fn label(&mut self, token: Token) -> Result<IdentName, Fault> {
         let name = self.text_of(token);
         if self.targets.has_label(name) {
             return Err(self.refuse());
@@ -253,26 +283,26 @@ impl<'a> Parser<'a> {
         let of_loop = self.loop_is_labeled();
         let label = self.word()?;
         self.expect(Kind::Colon)?;
-        let target = Target::Label { name, of_loop };
-        self.targets.push(target)?;
-        let body = self.statement(inside(room)?)?;
-        self.targets.pop(target);
-        self.labeled_of(token.start, label, body)
+        self.targets.push(Target::Label { name, of_loop })?;
+        Ok(label)
     }
 
     #[inline(never)]
     fn labeled_of(
-        &self,
-        start: u32,
+        &mut self,
+        token: Token,
         label: IdentName,
-        body: Nested<Stmt>,
-    ) -> Result<Nested<Stmt>, Fault> {
+        body: Result<Nested<Box<Stmt>>, Fault>,
+    ) -> Result<u32, Fault> {
+        let body = body?;
+        let name = self.text_of(token);
+        self.targets.pop_label(name);
         let node = LabeledStmt {
-            span: self.span_from(start),
+            span: self.span_from(token.start),
             label,
-            body: Box::new(self.alloc, body.node)?,
+            body: body.node,
         };
-        nest_stmt(Stmt::Labeled(node), body.levels)
+        self.keep(Stmt::Labeled(node), body.levels)
     }
 
     /// Whether the labels here stand before a loop.

@@ -58,10 +58,13 @@ impl<'a> Targets<'a> {
         match target {
             Target::Loop => self.unnamed.loops = loops.saturating_sub(1),
             Target::Switch => self.unnamed.switches = switches.saturating_sub(1),
-            Target::Label { name, .. } => {
-                self.labels.remove(&(self.functions, name));
-            }
+            Target::Label { name, .. } => self.pop_label(name),
         }
+    }
+
+    #[inline(never)]
+    pub(crate) fn pop_label(&mut self, name: &'a str) {
+        self.labels.remove(&(self.functions, name));
     }
 
     /// Begins a function; the answer ends it.

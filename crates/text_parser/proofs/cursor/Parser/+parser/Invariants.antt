@@ -29,8 +29,17 @@ decreases-attempt l = 30 * l.room + 18
 abbrev pub decreases-attempt_behind : goal.decreases-attempt_behind
 decreases-attempt_behind l = 30 * l.room + 17
 
+abbrev pub decreases-behind_innermost : goal.decreases-behind_innermost
+decreases-behind_innermost l = 30 * l.room + 2
+
+abbrev pub decreases-behind_operators : goal.decreases-behind_operators
+decreases-behind_operators l = 30 * l.room + 3
+
 abbrev pub decreases-behind_parentheses : goal.decreases-behind_parentheses
 decreases-behind_parentheses l = 30 * l.room + 23
+
+abbrev pub decreases-behind_run : goal.decreases-behind_run
+decreases-behind_run l = 30 * l.room + 24
 
 abbrev pub decreases-binary_behind : goal.decreases-binary_behind
 decreases-binary_behind l = 30 * l.room + 2
@@ -50,8 +59,14 @@ decreases-boxed_statement l = 30 * l.room + 1
 abbrev pub decreases-branch : goal.decreases-branch
 decreases-branch l = 30 * l.room + 18
 
+abbrev pub decreases-call_behind : goal.decreases-call_behind
+decreases-call_behind l = 30 * l.room + 2
+
 abbrev pub decreases-case : goal.decreases-case
 decreases-case l = 30 * l.room + 16
+
+abbrev pub decreases-case_test : goal.decreases-case_test
+decreases-case_test l = 30 * l.room + 1
 
 abbrev pub decreases-cases : goal.decreases-cases
 decreases-cases l = 30 * l.room + 17
@@ -60,10 +75,13 @@ abbrev pub decreases-choice_behind : goal.decreases-choice_behind
 decreases-choice_behind l = 30 * l.room + 1
 
 abbrev pub decreases-computed_member : goal.decreases-computed_member
-decreases-computed_member l = 30 * l.room + 1
+decreases-computed_member l = 30 * l.room + 2
 
 abbrev pub decreases-construction : goal.decreases-construction
 decreases-construction l = 30 * l.room + 18
+
+abbrev pub decreases-constructor : goal.decreases-constructor
+decreases-constructor l = 30 * l.room + 21
 
 abbrev pub decreases-declarator : goal.decreases-declarator
 decreases-declarator l = 30 * l.room + 11
@@ -74,20 +92,26 @@ decreases-declarators l = 30 * l.room + 12
 abbrev pub decreases-do_loop : goal.decreases-do_loop
 decreases-do_loop l = 30 * l.room + 18
 
+abbrev pub decreases-do_test : goal.decreases-do_test
+decreases-do_test l = 30 * l.room + 2
+
 abbrev pub decreases-expression : goal.decreases-expression
 decreases-expression l = 30 * l.room + 24
 
 abbrev pub decreases-expression_behind : goal.decreases-expression_behind
 decreases-expression_behind l = 30 * l.room + 1
 
+abbrev pub decreases-expression_inside : goal.decreases-expression_inside
+decreases-expression_inside l = 30 * l.room + 1
+
 abbrev pub decreases-expression_stmt : goal.decreases-expression_stmt
 decreases-expression_stmt l = 30 * l.room + 18
 
-abbrev pub decreases-finalizer : goal.decreases-finalizer
-decreases-finalizer l = 30 * l.room + 16
-
 abbrev pub decreases-first_part : goal.decreases-first_part
-decreases-first_part l = 30 * l.room + 17
+decreases-first_part l = 30 * l.room + 16
+
+abbrev pub decreases-for_head : goal.decreases-for_head
+decreases-for_head l = 30 * l.room + 17
 
 abbrev pub decreases-for_loop : goal.decreases-for_loop
 decreases-for_loop l = 30 * l.room + 18
@@ -124,6 +148,9 @@ decreases-listed l = 30 * l.room + 24
 
 abbrev pub decreases-loop_body : goal.decreases-loop_body
 decreases-loop_body l = 30 * l.room + 2
+
+abbrev pub decreases-member_behind : goal.decreases-member_behind
+decreases-member_behind l = 30 * l.room + 3
 
 abbrev pub decreases-members_behind : goal.decreases-members_behind
 decreases-members_behind l = 30 * l.room + 19
@@ -184,6 +211,9 @@ decreases-update_in_front l = 30 * l.room + 1
 
 abbrev pub decreases-value_behind : goal.decreases-value_behind
 decreases-value_behind l = 30 * l.room + 1
+
+abbrev pub decreases-value_of_key : goal.decreases-value_of_key
+decreases-value_of_key l = 30 * l.room + 1
 
 abbrev pub decreases-variable_stmt : goal.decreases-variable_stmt
 decreases-variable_stmt l = 30 * l.room + 14
