@@ -4,7 +4,7 @@ use Rattle.std.proofs.lemmas.Bool.{and_parts, false≢true}
 use Rattle.std.specs.Prelude.{nat_le, is_some, option_and_then, slice_get, if◌then◌else◌}
 use Rattle.swc_ast.specs.declared.Span.{Span}
 use Rattle.swc_ast.specs.Scope.{is_function}
-use Rattle.swc_ast.specs.Tree.{Name, Label, VarDecl, ExportDecl, Forest}
+use Rattle.swc_ast.specs.Tree.{Name, Label, VarDecl, ExportDecl, Tree, Forest, label_of, children_of}
 use Rattle.link_proofs.specs.Links.{Put, nothing}
 use Rattle.carry_rules.specs.Carry as carry
 use Rattle.carry_rules.specs.Carry.{Carried, or_put, starting, groups, is_nowhere, is_declaring, keeps_names, ready_at, enter, leave}
@@ -53,6 +53,10 @@ grown_fits {v} {u} {w} g f = record {
 
 pub added_grown : {v : Vars} (u : Tables) (w : Scoped) {more : Name → Bool} → Adds v u.ready w more → Grown u (record u { ready = w })
 added_grown u w a = record { values = λ x. refl; settled = grows_itself u.settled; ready = a.keeps; names = a.names }
+
+-- names made ready at the head of a node, by what it is opened as
+pub front_opened : {v : Vars} {u w : Scoped} (t : Tree) (l : Label) (cs : Forest) → label_of t ≡ l → children_of t ≡ cs → Adds v u w (ready_at (label_of t) (children_of t)) → Adds v u w (ready_at l cs)
+front_opened {v} {u} {w} t l cs labelled held a = subst (λ k. Adds v u w (ready_at k cs)) labelled (subst (λ ds. Adds v u w (ready_at (label_of t) ds)) held a)
 
 -- at the head of a node
 

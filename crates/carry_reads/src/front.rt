@@ -18,8 +18,23 @@ use std::alloc::AllocError;
 use swc_ast::{CatchClause, Ident};
 use tree_visit::{Children, Kind, Node};
 
-/// Makes the names ready that are so at the head of a node. Fails where memory is refused.
+/// Makes the names ready that are so at the head of a node. Fails where memory is refused. (It isn't inlined, so that a level of
+/// a tree takes less of the stack.)
+#[inline(never)]
 pub(crate) fn add_front<'a>(
+    vars: &Vars<'a>,
+    ready: &mut Scoped<'a>,
+    n: Node<'a>,
+) -> Result<(), AllocError>
+    requires { Covers vars.now (names_in ready.old) }
+    ensures { OnOk result (Adds vars.now ready.old ready.new (carry.ready_at (label_of (node_tree n.entry)) (children_of (node_tree n.entry)))) }
+{
+    let opened = n.open();
+    add_opened(vars, ready, opened.kind, opened.children)
+}
+
+/// The same, by what the node is and its children.
+fn add_opened<'a>(
     vars: &Vars<'a>,
     ready: &mut Scoped<'a>,
     kind: Kind<'a>,

@@ -154,6 +154,7 @@ impl<'a> Reader<'a> {
     }
 
     /// Carries what a declarator gives its name.
+    #[inline(never)]
     fn behind(&self, tables: &mut Tables<'a>, n: Node<'a>, place: Place) -> Result<(), AllocError>
         requires fits { Fits self.now.vars tables.old }
         requires room { place.base ≤ length tables.old.settled.carries.items }
@@ -200,10 +201,10 @@ impl<'a> Reader<'a> {
         requires room { place.base ≤ length tables.old.settled.carries.items }
         ensures { OnOk result (Walks self.now place tables.old tables.new (puts reads.old.items) (puts reads.new.items) (node_tree n.entry)) }
     {
-        let opened = n.open();
+        let opened = n.open_apart();
         self.note(tables, reads, opened.kind, place)?;
         let mark = tables.mark();
-        add_front(&self.vars, &mut tables.ready, opened.kind, opened.children)?;
+        add_front(&self.vars, &mut tables.ready, n)?;
         let next = tables.settled.next();
         let below = place.below(self.pass, opened.kind, is_nowhere(n), next);
         self.nodes(tables, reads, opened.children, below)?;

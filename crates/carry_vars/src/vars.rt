@@ -113,12 +113,13 @@ impl<'a> Vars<'a> {
 fn count(table: &mut NameTable<'_, Tally>, n: Node<'_>)
     ensures { Notes table.old table.new (λ f x. counted (how_many (tells_of f x) (node_tree n.entry))) }
 {
-    let opened = n.open();
+    let opened = n.open_apart();
     note(table, opened.kind, opened.children);
     count_all(table, opened.children);
 }
 
-/// Notes what a node tells by itself.
+/// Notes what a node tells by itself. (Inlined, it would double what a level of the tree takes of the stack.)
+#[inline(never)]
 fn note(table: &mut NameTable<'_, Tally>, kind: Kind<'_>, children: Children<'_>)
     ensures { Notes table.old table.new (λ f x. counted (one (tells_of f x (kind_label kind.entry) (children_forest children.entry)))) }
 {

@@ -1,30 +1,52 @@
 //! Children that stand where they may.
 ghost use Rattle.std.specs.Prelude.{◌≡◌, map, nat_le};
 ghost use Rattle.swc_ast.specs.Expressions.{quasi_text};
+ghost use Rattle.swc_ast.specs.Tree.{Forest};
 ghost use Rattle.swc_ast.specs.Valid.{good_shape, good_texts, count, is_last_absent as ends_absent, none_listed as lists_none, last_not_listed as ends_unlisted};
 ghost use Rattle.tree_visit.specs.Nodes.{children_forest};
 ghost use Rattle.tree_visit.specs.Kinds.{kind_label};
+ghost use Rattle.swc_debug.specs.Shape.{fits};
 
 use swc_ast::TplElement;
 use tree_visit::{Children, Kind};
 
-/// Whether a node has the children that its kind asks for: what validity asks of the node beside its names and beside the
-/// validity of the children.
+/// What validity asks of the children of a node, beside their own validity.
+#[derive(Clone, Copy)]
+enum Shape<'a> {
+    /// nothing
+    Any,
+    /// what no children are
+    Never,
+    /// one less than these texts, of which the last one alone is marked as such
+    Texts(&'a [TplElement]),
+    /// at least one
+    One,
+    /// at least two
+    Two,
+    /// that the last isn't left out
+    LastThere,
+    /// that none is a declaration, which stands in a list
+    NoneListed,
+    /// that the last is none
+    LastNotListed,
+}
+
+/// What validity asks of the children of a node of a kind.
 #[inline(always)]
-pub fn has_good_shape(kind: Kind<'_>, children: Children<'_>) -> bool
-    ensures { result ≡ good_shape (kind_label kind.entry) (children_forest children.entry) }
+fn shape_of<'a>(kind: Kind<'a>) -> Shape<'a>
+    ensures { (cs : Forest) → fits result cs ≡ good_shape (kind_label kind.entry) cs }
 {
     match kind {
-        Kind::Invalid => false,
-        Kind::Template(quasis) => has_good_texts(quasis, children),
-        Kind::Seq => has_two(children),
-        Kind::VarDecl(_) => has_one(children),
+        Kind::Invalid => Shape::Never,
+        Kind::Template(quasis) => Shape::Texts(quasis),
+        Kind::Seq => Shape::Two,
+        Kind::VarDecl(_) => Shape::One,
         Kind::Try(handler) => match handler {
-            None => !is_last_absent(children),
-            Some(_) => true,
+            None => Shape::LastThere,
+            Some(_) => Shape::Any,
         },
-        Kind::If | Kind::While | Kind::DoWhile | Kind::Labeled(_) => none_listed(children),
-        Kind::For => last_not_listed(children),
+        Kind::If | Kind::While | Kind::DoWhile | Kind::Labeled(_) => Shape::NoneListed,
+        Kind::For => Shape::LastNotListed,
         Kind::NumLit(_)
         | Kind::StrLit(_)
         | Kind::BoolLit(_)
@@ -85,7 +107,36 @@ pub fn has_good_shape(kind: Kind<'_>, children: Children<'_>) -> bool
         | Kind::ExportNamed
         | Kind::ExportSpecifier(_)
         | Kind::ExportDefaultFn(_)
-        | Kind::ExportDefaultExpr => true,
+        | Kind::ExportDefaultExpr => Shape::Any,
+    }
+}
+
+/// Whether a node has the children that its kind asks for: what validity asks of the node beside its names and beside the
+/// validity of the children.
+#[inline(always)]
+pub fn has_good_shape(kind: Kind<'_>, children: Children<'_>) -> bool
+    ensures { result ≡ good_shape (kind_label kind.entry) (children_forest children.entry) }
+{
+    match shape_of(kind) {
+        Shape::Any => true,
+        shape => fits(shape, children),
+    }
+}
+
+/// Whether children are what is asked. (It isn't inlined, so that what walks a tree keeps one copy of the children for it.)
+#[inline(never)]
+fn fits(shape: Shape<'_>, children: Children<'_>) -> bool
+    ensures { result ≡ fits shape.entry (children_forest children.entry) }
+{
+    match shape {
+        Shape::Any => true,
+        Shape::Never => false,
+        Shape::Texts(quasis) => has_good_texts(quasis, children),
+        Shape::One => has_one(children),
+        Shape::Two => has_two(children),
+        Shape::LastThere => !is_last_absent(children),
+        Shape::NoneListed => none_listed(children),
+        Shape::LastNotListed => last_not_listed(children),
     }
 }
 

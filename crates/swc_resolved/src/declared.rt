@@ -11,6 +11,7 @@ ghost use Rattle.tree_visit.specs.Nodes.{Opens, node_tree, children_forest};
 ghost use Rattle.swc_resolved.specs.Names.{names as tree_names_of};
 ghost use Rattle.swc_resolved.specs.Parts.{optional, tree_names, forest_names, label_names, declaring, is_export as is_export_label, is_lexical as is_lexical_label, is_import as is_import_label, is_case_body as is_case_label};
 ghost use Rattle.swc_resolved.specs.Scopes.{own_names};
+ghost use Rattle.swc_resolved.specs.declared.declared.Part.TheVariants.{Declarations, Vars};
 
 use crate::names::Name;
 use crate::still::is_still;
@@ -51,33 +52,50 @@ pub fn add_names<'a>(
     let mut left = children;
     while let Some((child, rest)) = left.next() {
         if !is_still(child, part) {
-            add_names_of(names, child, part)?;
+            add_node(names, child, part)?;
         }
         left = rest;
     }
     Ok(())
 }
 
+/// Adds the names that a node gives. (`var`s are looked for as deep as statements nest, so they have a function of their own, which
+/// takes little of the stack.)
 #[cycle(names)]
-#[tactic(auto, using(crate::proofs::Gathered::vars_below, crate::proofs::Gathered::vars_alone, crate::proofs::Gathered::declarators, crate::proofs::Gathered::lone, crate::proofs::Gathered::specifiers, crate::proofs::Gathered::no_import, crate::proofs::Gathered::case_below, crate::proofs::Gathered::no_case, crate::proofs::Gathered::case_vars_below, crate::proofs::Gathered::no_case_vars, crate::proofs::Gathered::declarator, crate::proofs::Gathered::param, crate::proofs::Gathered::imported))]
+#[inline(always)]
+fn add_node<'a>(names: &mut Vec<Name<'a>>, n: Node<'a>, part: Part) -> Result<(), AllocError>
+    ensures { OnOk result (tree_names_of names.new.items ≡ tree_names_of names.old.items ++ tree_names part (node_tree n.entry)) }
+{
+    match part {
+        Part::Vars => add_vars(names, n),
+        Part::Declarations => add_declaration(names, n),
+        _ => add_names_of(names, n, part),
+    }
+}
+
+/// Adds the names of the `var`s in a node.
+#[cycle(names)]
+#[inline(never)]
+#[tactic(auto, using(crate::proofs::Gathered::vars_below, crate::proofs::Gathered::vars_alone))]
+fn add_vars<'a>(names: &mut Vec<Name<'a>>, n: Node<'a>) -> Result<(), AllocError>
+    ensures { OnOk result (tree_names_of names.new.items ≡ tree_names_of names.old.items ++ tree_names Vars (node_tree n.entry)) }
+{
+    let opened = n.open_apart();
+    if opened.kind.holds_statements() {
+        return add_names(names, opened.children, Part::Vars);
+    }
+    add_optional(names, own_var(opened.kind))
+}
+
+#[cycle(names)]
+#[tactic(auto, using(crate::proofs::Gathered::specifiers, crate::proofs::Gathered::no_import, crate::proofs::Gathered::case_below, crate::proofs::Gathered::no_case, crate::proofs::Gathered::case_vars_below, crate::proofs::Gathered::no_case_vars, crate::proofs::Gathered::declarator, crate::proofs::Gathered::param, crate::proofs::Gathered::imported))]
 fn add_names_of<'a>(names: &mut Vec<Name<'a>>, n: Node<'a>, part: Part) -> Result<(), AllocError>
     ensures { OnOk result (tree_names_of names.new.items ≡ tree_names_of names.old.items ++ tree_names part (node_tree n.entry)) }
 {
     let opened = n.open();
     match part {
-        Part::Vars => {
-            if opened.kind.holds_statements() {
-                return add_names(names, opened.children, Part::Vars);
-            }
-            add_optional(names, own_var(opened.kind))
-        }
-        Part::Declarations => {
-            let declaration = declaration(opened);
-            if is_lexical(declaration.kind) {
-                return add_names(names, declaration.children, Part::Declarators);
-            }
-            add_optional(names, declared_name(declaration.kind))
-        }
+        Part::Vars => add_vars(names, n),
+        Part::Declarations => add_declaration(names, n),
         Part::Declarators => add_optional(names, declarator_name(opened.kind)),
         Part::Params => add_optional(names, param_name(opened.kind)),
         Part::Imports => {
@@ -100,6 +118,20 @@ fn add_names_of<'a>(names: &mut Vec<Name<'a>>, n: Node<'a>, part: Part) -> Resul
             Ok(())
         }
     }
+}
+
+/// Adds the names of what stands directly in a list.
+#[cycle(names)]
+#[inline(never)]
+fn add_declaration<'a>(names: &mut Vec<Name<'a>>, n: Node<'a>) -> Result<(), AllocError>
+    ensures { OnOk result (tree_names_of names.new.items ≡ tree_names_of names.old.items ++ tree_names Declarations (node_tree n.entry)) }
+{
+    let opened = n.open();
+    let declaration = declaration(opened);
+    if is_lexical(declaration.kind) {
+        return add_names(names, declaration.children, Part::Declarators);
+    }
+    add_optional(names, declared_name(declaration.kind))
 }
 
 pub(crate) fn add_optional<'a>(

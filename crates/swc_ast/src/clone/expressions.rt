@@ -1,7 +1,7 @@
 //! Copies of expressions.
 ghost use Rattle.std.specs.Prelude.{◌≡◌, IfOk, map};
-ghost use Rattle.swc_ast.specs.Parts.{option_tree};
-ghost use Rattle.swc_ast.specs.Expressions.{element_node, element_tree, array_tree, object_tree, fn_expr_tree, unary_tree, bin_tree, cond_tree, call_tree, new_tree, seq_tree, tpl_tree};
+ghost use Rattle.swc_ast.specs.Parts.{option_tree, ident_tree, lit_tree};
+ghost use Rattle.swc_ast.specs.Expressions.{element_node, element_tree, array_tree, object_tree, fn_expr_tree, unary_tree, bin_tree, cond_tree, call_tree, new_tree, seq_tree, tpl_tree, member_tree};
 ghost use Rattle.swc_ast.specs.Views.{expr_tree, prop_or_spread_tree, function_trees};
 
 use crate::clone::functions::{copy_boxed_arrow, copy_boxed_function};
@@ -11,9 +11,11 @@ use crate::clone::leaves::{
 use crate::clone::objects::copy_properties;
 use crate::clone::targets::{copy_boxed_assign, copy_boxed_update, copy_member};
 use crate::expressions::{
-    ArrayLit, BinExpr, CallExpr, CondExpr, Expr, ExprOrSpread, FnExpr, NewExpr, ObjectLit, SeqExpr,
-    Tpl, UnaryExpr,
+    ArrayLit, BinExpr, CallExpr, CondExpr, Expr, ExprOrSpread, FnExpr, MemberExpr, NewExpr,
+    ObjectLit, SeqExpr, Tpl, UnaryExpr,
 };
+use crate::literals::Lit;
+use crate::names::Ident;
 use std::alloc::{AllocError, Global};
 
 #[cycle(clone)]
@@ -22,27 +24,130 @@ pub(crate) fn copy_expr(e: &Expr) -> Result<Expr, AllocError>
 {
     match e {
         Expr::This(n) => Ok(Expr::This(copy_this(n))),
-        Expr::Array(n) => Ok(Expr::Array(copy_array(n)?)),
-        Expr::Object(n) => Ok(Expr::Object(copy_object(n)?)),
-        Expr::Fn(n) => Ok(Expr::Fn(copy_fn_expr(n)?)),
-        Expr::Unary(n) => Ok(Expr::Unary(copy_unary(n)?)),
+        Expr::Array(n) => expr_of_array(n),
+        Expr::Object(n) => expr_of_object(n),
+        Expr::Fn(n) => expr_of_fn(n),
+        Expr::Unary(n) => expr_of_unary(n),
         Expr::Update(n) => Ok(Expr::Update(copy_boxed_update(n)?)),
-        Expr::Bin(n) => Ok(Expr::Bin(copy_bin(n)?)),
+        Expr::Bin(n) => expr_of_bin(n),
         Expr::Assign(n) => Ok(Expr::Assign(copy_boxed_assign(n)?)),
-        Expr::Member(n) => Ok(Expr::Member(copy_member(n)?)),
-        Expr::Cond(n) => Ok(Expr::Cond(copy_cond(n)?)),
-        Expr::Call(n) => Ok(Expr::Call(copy_call(n)?)),
-        Expr::New(n) => Ok(Expr::New(copy_new(n)?)),
-        Expr::Seq(n) => Ok(Expr::Seq(copy_seq(n)?)),
-        Expr::Ident(n) => Ok(Expr::Ident(copy_ident(n)?)),
-        Expr::Lit(n) => Ok(Expr::Lit(copy_lit(n)?)),
-        Expr::Tpl(n) => Ok(Expr::Tpl(copy_tpl(n)?)),
+        Expr::Member(n) => expr_of_member(n),
+        Expr::Cond(n) => expr_of_cond(n),
+        Expr::Call(n) => expr_of_call(n),
+        Expr::New(n) => expr_of_new(n),
+        Expr::Seq(n) => expr_of_seq(n),
+        Expr::Ident(n) => expr_of_ident(n),
+        Expr::Lit(n) => expr_of_lit(n),
+        Expr::Tpl(n) => expr_of_tpl(n),
         Expr::Arrow(n) => Ok(Expr::Arrow(copy_boxed_arrow(n)?)),
         Expr::Invalid(n) => Ok(Expr::Invalid(copy_invalid(n))),
     }
 }
 
 #[cycle(clone)]
+#[inline(never)]
+fn expr_of_array(n: &ArrayLit) -> Result<Expr, AllocError>
+    ensures { IfOk result (λ r. expr_tree r ≡ array_tree expr_tree n.now) }
+{
+    Ok(Expr::Array(copy_array(n)?))
+}
+
+#[cycle(clone)]
+#[inline(never)]
+fn expr_of_object(n: &ObjectLit) -> Result<Expr, AllocError>
+    ensures { IfOk result (λ r. expr_tree r ≡ object_tree prop_or_spread_tree n.now) }
+{
+    Ok(Expr::Object(copy_object(n)?))
+}
+
+#[cycle(clone)]
+#[inline(never)]
+fn expr_of_fn(n: &FnExpr) -> Result<Expr, AllocError>
+    ensures { IfOk result (λ r. expr_tree r ≡ fn_expr_tree function_trees n.now) }
+{
+    Ok(Expr::Fn(copy_fn_expr(n)?))
+}
+
+#[cycle(clone)]
+#[inline(never)]
+fn expr_of_unary(n: &UnaryExpr) -> Result<Expr, AllocError>
+    ensures { IfOk result (λ r. expr_tree r ≡ unary_tree expr_tree n.now) }
+{
+    Ok(Expr::Unary(copy_unary(n)?))
+}
+
+#[cycle(clone)]
+#[inline(never)]
+fn expr_of_bin(n: &BinExpr) -> Result<Expr, AllocError>
+    ensures { IfOk result (λ r. expr_tree r ≡ bin_tree expr_tree n.now) }
+{
+    Ok(Expr::Bin(copy_bin(n)?))
+}
+
+#[cycle(clone)]
+#[inline(never)]
+fn expr_of_member(n: &MemberExpr) -> Result<Expr, AllocError>
+    ensures { IfOk result (λ r. expr_tree r ≡ member_tree expr_tree n.now) }
+{
+    Ok(Expr::Member(copy_member(n)?))
+}
+
+#[cycle(clone)]
+#[inline(never)]
+fn expr_of_cond(n: &CondExpr) -> Result<Expr, AllocError>
+    ensures { IfOk result (λ r. expr_tree r ≡ cond_tree expr_tree n.now) }
+{
+    Ok(Expr::Cond(copy_cond(n)?))
+}
+
+#[cycle(clone)]
+#[inline(never)]
+fn expr_of_call(n: &CallExpr) -> Result<Expr, AllocError>
+    ensures { IfOk result (λ r. expr_tree r ≡ call_tree expr_tree n.now) }
+{
+    Ok(Expr::Call(copy_call(n)?))
+}
+
+#[cycle(clone)]
+#[inline(never)]
+fn expr_of_new(n: &NewExpr) -> Result<Expr, AllocError>
+    ensures { IfOk result (λ r. expr_tree r ≡ new_tree expr_tree n.now) }
+{
+    Ok(Expr::New(copy_new(n)?))
+}
+
+#[cycle(clone)]
+#[inline(never)]
+fn expr_of_seq(n: &SeqExpr) -> Result<Expr, AllocError>
+    ensures { IfOk result (λ r. expr_tree r ≡ seq_tree expr_tree n.now) }
+{
+    Ok(Expr::Seq(copy_seq(n)?))
+}
+
+#[inline(never)]
+fn expr_of_ident(n: &Ident) -> Result<Expr, AllocError>
+    ensures { IfOk result (λ r. expr_tree r ≡ ident_tree n.now) }
+{
+    Ok(Expr::Ident(copy_ident(n)?))
+}
+
+#[inline(never)]
+fn expr_of_lit(n: &Lit) -> Result<Expr, AllocError>
+    ensures { IfOk result (λ r. expr_tree r ≡ lit_tree n.now) }
+{
+    Ok(Expr::Lit(copy_lit(n)?))
+}
+
+#[cycle(clone)]
+#[inline(never)]
+fn expr_of_tpl(n: &Tpl) -> Result<Expr, AllocError>
+    ensures { IfOk result (λ r. expr_tree r ≡ tpl_tree expr_tree n.now) }
+{
+    Ok(Expr::Tpl(copy_tpl(n)?))
+}
+
+#[cycle(clone)]
+#[inline(never)]
 pub(crate) fn copy_boxed(e: &Box<Expr>) -> Result<Box<Expr>, AllocError>
     ensures { IfOk result (λ r. expr_tree r.value ≡ expr_tree e.now.value) }
 {

@@ -25,6 +25,7 @@ pub(crate) fn copy_function(f: &Function) -> Result<Function, AllocError>
 }
 
 #[cycle(clone)]
+#[inline(never)]
 pub(crate) fn copy_boxed_function(f: &Box<Function>) -> Result<Box<Function>, AllocError>
     ensures { IfOk result (λ r. function_trees r.value ≡ function_trees f.now.value) }
 {
@@ -47,6 +48,7 @@ pub(crate) fn copy_arrow(f: &ArrowExpr) -> Result<ArrowExpr, AllocError>
 }
 
 #[cycle(clone)]
+#[inline(never)]
 pub(crate) fn copy_boxed_arrow(n: &Box<ArrowExpr>) -> Result<Box<ArrowExpr>, AllocError>
     ensures { IfOk result (λ r. arrow_tree r.value ≡ arrow_tree n.now.value) }
 {

@@ -2,15 +2,16 @@
 ghost use Rattle.std.specs.Prelude.{◌≡◌, IfOk, map};
 ghost use Rattle.swc_ast.specs.Parts.{option_tree};
 ghost use Rattle.swc_ast.specs.Nodes.{init_node, option_init_node, handler_node, option_handler_node};
-ghost use Rattle.swc_ast.specs.Statements.{block_tree, option_block_tree, return_tree, throw_tree, expr_stmt_tree, labeled_tree, try_tree};
-ghost use Rattle.swc_ast.specs.Views.{expr_tree, stmt_tree, for_tree, if_tree, switch_tree, case_trees, loop_trees};
+ghost use Rattle.swc_ast.specs.Statements.{block_tree, option_block_tree, return_tree, throw_tree, expr_stmt_tree, labeled_tree, try_tree, break_tree, continue_tree, while_node, do_while_node};
+ghost use Rattle.swc_ast.specs.Views.{expr_tree, stmt_tree, decl_tree, for_tree, if_tree, switch_tree, case_trees, loop_trees};
 
 use crate::clone::declarations::{copy_decl, copy_var};
 use crate::clone::expressions::{copy_boxed, copy_option};
 use crate::clone::leaves::{copy_break, copy_continue, copy_empty, copy_option_ident, copy_word};
+use crate::declarations::Decl;
 use crate::statements::{
-    BlockStmt, CatchClause, ExprStmt, ForStmt, IfStmt, LabeledStmt, ReturnStmt, Stmt, SwitchCase,
-    SwitchStmt, ThrowStmt, TryStmt, VarDeclOrExpr, WhileStmt,
+    BlockStmt, BreakStmt, CatchClause, ContinueStmt, ExprStmt, ForStmt, IfStmt, LabeledStmt,
+    ReturnStmt, Stmt, SwitchCase, SwitchStmt, ThrowStmt, TryStmt, VarDeclOrExpr, WhileStmt,
 };
 use std::alloc::{AllocError, Global};
 
@@ -19,25 +20,120 @@ pub(crate) fn copy_stmt(s: &Stmt) -> Result<Stmt, AllocError>
     ensures { IfOk result (λ r. stmt_tree r ≡ stmt_tree s.now) }
 {
     match s {
-        Stmt::Block(n) => Ok(Stmt::Block(copy_block(n)?)),
+        Stmt::Block(n) => stmt_of_block(n),
         Stmt::Empty(n) => Ok(Stmt::Empty(copy_empty(n))),
-        Stmt::Return(n) => Ok(Stmt::Return(copy_return(n)?)),
-        Stmt::Labeled(n) => Ok(Stmt::Labeled(copy_labeled(n)?)),
-        Stmt::Break(n) => Ok(Stmt::Break(copy_break(n)?)),
-        Stmt::Continue(n) => Ok(Stmt::Continue(copy_continue(n)?)),
-        Stmt::If(n) => Ok(Stmt::If(copy_if(n)?)),
-        Stmt::Switch(n) => Ok(Stmt::Switch(copy_switch(n)?)),
-        Stmt::Throw(n) => Ok(Stmt::Throw(copy_throw(n)?)),
+        Stmt::Return(n) => stmt_of_return(n),
+        Stmt::Labeled(n) => stmt_of_labeled(n),
+        Stmt::Break(n) => stmt_of_break(n),
+        Stmt::Continue(n) => stmt_of_continue(n),
+        Stmt::If(n) => stmt_of_if(n),
+        Stmt::Switch(n) => stmt_of_switch(n),
+        Stmt::Throw(n) => stmt_of_throw(n),
         Stmt::Try(n) => Ok(Stmt::Try(copy_boxed_try(n)?)),
-        Stmt::While(n) => Ok(Stmt::While(copy_while(n)?)),
-        Stmt::DoWhile(n) => Ok(Stmt::DoWhile(copy_while(n)?)),
+        Stmt::While(n) => stmt_of_while(n),
+        Stmt::DoWhile(n) => stmt_of_do_while(n),
         Stmt::For(n) => Ok(Stmt::For(copy_boxed_for(n)?)),
-        Stmt::Decl(n) => Ok(Stmt::Decl(copy_decl(n)?)),
-        Stmt::Expr(n) => Ok(Stmt::Expr(copy_expr_stmt(n)?)),
+        Stmt::Decl(n) => stmt_of_decl(n),
+        Stmt::Expr(n) => stmt_of_expr(n),
     }
 }
 
 #[cycle(clone)]
+#[inline(never)]
+fn stmt_of_block(n: &BlockStmt) -> Result<Stmt, AllocError>
+    ensures { IfOk result (λ r. stmt_tree r ≡ block_tree stmt_tree n.now) }
+{
+    Ok(Stmt::Block(copy_block(n)?))
+}
+
+#[cycle(clone)]
+#[inline(never)]
+fn stmt_of_return(n: &ReturnStmt) -> Result<Stmt, AllocError>
+    ensures { IfOk result (λ r. stmt_tree r ≡ return_tree expr_tree n.now) }
+{
+    Ok(Stmt::Return(copy_return(n)?))
+}
+
+#[cycle(clone)]
+#[inline(never)]
+fn stmt_of_labeled(n: &LabeledStmt) -> Result<Stmt, AllocError>
+    ensures { IfOk result (λ r. stmt_tree r ≡ labeled_tree stmt_tree n.now) }
+{
+    Ok(Stmt::Labeled(copy_labeled(n)?))
+}
+
+#[inline(never)]
+fn stmt_of_break(n: &BreakStmt) -> Result<Stmt, AllocError>
+    ensures { IfOk result (λ r. stmt_tree r ≡ break_tree n.now) }
+{
+    Ok(Stmt::Break(copy_break(n)?))
+}
+
+#[inline(never)]
+fn stmt_of_continue(n: &ContinueStmt) -> Result<Stmt, AllocError>
+    ensures { IfOk result (λ r. stmt_tree r ≡ continue_tree n.now) }
+{
+    Ok(Stmt::Continue(copy_continue(n)?))
+}
+
+#[cycle(clone)]
+#[inline(never)]
+fn stmt_of_if(n: &IfStmt) -> Result<Stmt, AllocError>
+    ensures { IfOk result (λ r. stmt_tree r ≡ if_tree n.now) }
+{
+    Ok(Stmt::If(copy_if(n)?))
+}
+
+#[cycle(clone)]
+#[inline(never)]
+fn stmt_of_switch(n: &SwitchStmt) -> Result<Stmt, AllocError>
+    ensures { IfOk result (λ r. stmt_tree r ≡ switch_tree n.now) }
+{
+    Ok(Stmt::Switch(copy_switch(n)?))
+}
+
+#[cycle(clone)]
+#[inline(never)]
+fn stmt_of_throw(n: &ThrowStmt) -> Result<Stmt, AllocError>
+    ensures { IfOk result (λ r. stmt_tree r ≡ throw_tree expr_tree n.now) }
+{
+    Ok(Stmt::Throw(copy_throw(n)?))
+}
+
+#[cycle(clone)]
+#[inline(never)]
+fn stmt_of_while(n: &WhileStmt) -> Result<Stmt, AllocError>
+    ensures { IfOk result (λ r. stmt_tree r ≡ while_node (loop_trees n.now)) }
+{
+    Ok(Stmt::While(copy_while(n)?))
+}
+
+#[cycle(clone)]
+#[inline(never)]
+fn stmt_of_do_while(n: &WhileStmt) -> Result<Stmt, AllocError>
+    ensures { IfOk result (λ r. stmt_tree r ≡ do_while_node (loop_trees n.now)) }
+{
+    Ok(Stmt::DoWhile(copy_while(n)?))
+}
+
+#[cycle(clone)]
+#[inline(never)]
+fn stmt_of_decl(n: &Decl) -> Result<Stmt, AllocError>
+    ensures { IfOk result (λ r. stmt_tree r ≡ decl_tree n.now) }
+{
+    Ok(Stmt::Decl(copy_decl(n)?))
+}
+
+#[cycle(clone)]
+#[inline(never)]
+fn stmt_of_expr(n: &ExprStmt) -> Result<Stmt, AllocError>
+    ensures { IfOk result (λ r. stmt_tree r ≡ expr_stmt_tree expr_tree n.now) }
+{
+    Ok(Stmt::Expr(copy_expr_stmt(n)?))
+}
+
+#[cycle(clone)]
+#[inline(never)]
 pub(crate) fn copy_boxed_stmt(s: &Box<Stmt>) -> Result<Box<Stmt>, AllocError>
     ensures { IfOk result (λ r. stmt_tree r.value ≡ stmt_tree s.now.value) }
 {
@@ -193,6 +289,7 @@ pub(crate) fn copy_try(n: &TryStmt) -> Result<TryStmt, AllocError>
 }
 
 #[cycle(clone)]
+#[inline(never)]
 pub(crate) fn copy_boxed_try(n: &Box<TryStmt>) -> Result<Box<TryStmt>, AllocError>
     ensures { IfOk result (λ r. try_tree stmt_tree r.value ≡ try_tree stmt_tree n.now.value) }
 {
@@ -257,6 +354,7 @@ pub(crate) fn copy_for(n: &ForStmt) -> Result<ForStmt, AllocError>
 }
 
 #[cycle(clone)]
+#[inline(never)]
 pub(crate) fn copy_boxed_for(n: &Box<ForStmt>) -> Result<Box<ForStmt>, AllocError>
     ensures { IfOk result (λ r. for_tree r.value ≡ for_tree n.now.value) }
 {

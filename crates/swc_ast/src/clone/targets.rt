@@ -26,6 +26,7 @@ pub(crate) fn copy_update(n: &UpdateExpr) -> Result<UpdateExpr, AllocError>
 }
 
 #[cycle(clone)]
+#[inline(never)]
 pub(crate) fn copy_boxed_update(n: &Box<UpdateExpr>) -> Result<Box<UpdateExpr>, AllocError>
     ensures { IfOk result (λ r. update_tree expr_tree r.value ≡ update_tree expr_tree n.now.value) }
 {
@@ -49,6 +50,7 @@ pub(crate) fn copy_assign(n: &AssignExpr) -> Result<AssignExpr, AllocError>
 }
 
 #[cycle(clone)]
+#[inline(never)]
 pub(crate) fn copy_boxed_assign(n: &Box<AssignExpr>) -> Result<Box<AssignExpr>, AllocError>
     ensures { IfOk result (λ r. assign_tree expr_tree r.value ≡ assign_tree expr_tree n.now.value) }
 {

@@ -18,7 +18,7 @@ pub count_all-count-requires : goal.count_all-count-requires
 count_all-count-requires t c = (let h = child_falls (node_tree c.in-Some.child) (children_forest c.in-Some.rest) (children_forest c.loop-child.left) (children_forest c.args.children) (c.next.ensures ∙ ap next_forest c.in-Some.is) c.loop-child.invariant.1 in omega (arith, h, c.decreases), tt)
 
 pub count-count_all-requires : goal.count-count_all-requires
-count-count_all-requires t c = (let h = children_fall (node_tree c.args.n) (children_forest c.open-opened.result.children) c.open-opened.ensures.1 in omega (arith, h, c.decreases), tt)
+count-count_all-requires t c = (let h = children_fall (node_tree c.args.n) (children_forest c.open_apart-opened.result.children) c.open_apart-opened.ensures.1 in omega (arith, h, c.decreases), tt)
 
 pub count-returns : goal.count-returns
-count-returns t c = whole_noted c.args.table.now c.note.new.table c.count_all.new.table (node_tree c.args.n) (kind_label c.open-opened.result.kind) (children_forest c.open-opened.result.children) c.open-opened.ensures.0 c.open-opened.ensures.1 c.note.ensures c.count_all.ensures
+count-returns t c = whole_noted c.args.table.now c.note.new.table c.count_all.new.table (node_tree c.args.n) (kind_label c.open_apart-opened.result.kind) (children_forest c.open_apart-opened.result.children) c.open_apart-opened.ensures.0 c.open_apart-opened.ensures.1 c.note.ensures c.count_all.ensures

@@ -3,7 +3,7 @@ use Rattle.tree_visit.specs.Kinds.{kind_label}
 use Rattle.tree_visit.specs.Nodes.{node_tree, children_forest, next_forest}
 use Rattle.carry_parts.specs.Carries.{pass_of}
 use Rattle.carry_reads.specs.Walks.{puts}
-use Rattle.carry_reads.proofs.Stating.{grown_fits, added_grown}
+use Rattle.carry_reads.proofs.Stating.{grown_fits, added_grown, front_opened}
 use Rattle.carry_reads.proofs.Walking.{call_gives, head_room, grown_room, end_grown, node_read, all_left, one_less, none_left, children_fall, child_falls}
 use Rattle.carry_reads.proofs.reader.Reader.+node.Goals as goal
 
@@ -28,12 +28,12 @@ nodes-node-requires t c =
 
 pub node-nodes-requires : goal.node-nodes-requires
 node-nodes-requires t c =
-    let h = children_fall (node_tree c.args.n) (children_forest c.open-opened.result.children) c.open-opened.ensures.1 in
+    let h = children_fall (node_tree c.args.n) (children_forest c.open_apart-opened.result.children) c.open_apart-opened.ensures.1 in
     let r = c.args.self.now in (
       omega (arith, h, c.decreases),
       (
         grown_fits (added_grown c.args.tables.now c.add_front.new.ready c.in_ok-add_front.ensures) c.requires.fits,
-        head_room (pass_of r.pass) (kind_label c.open-opened.result.kind) c.is_nowhere.result c.next-next.result _ c.args.place c.below-below.result c.below-below.ensures c.next-next.ensures c.requires.room,
+        head_room (pass_of r.pass) (kind_label c.open_apart-opened.result.kind) c.is_nowhere.result c.next-next.result _ c.args.place c.below-below.result c.below-below.ensures c.next-next.ensures c.requires.room,
       ),
     )
 
@@ -42,12 +42,12 @@ node-add_front-requires t c = c.requires.fits.ready
 
 pub node-behind-requires : goal.node-behind-requires
 node-behind-requires t c =
-    let g = end_grown c.args.self.now c.args.place c.below-below.result c.args.tables.now c.add_front.new.ready c.nodes.new.tables c.leave.new.self c.mark-mark.result (kind_label c.open-opened.result.kind) (children_forest c.open-opened.result.children) (node_tree c.args.n)
-    c.requires.fits c.in_ok-add_front.ensures (puts c.note.new.reads.items) (puts c.nodes.new.reads.items) c.mark-mark.ensures.settled c.mark-mark.ensures.ready c.in_ok-nodes.ensures c.leave.ensures in
+    let g = end_grown c.args.self.now c.args.place c.below-below.result c.args.tables.now c.add_front.new.ready c.nodes.new.tables c.leave.new.self c.mark-mark.result (kind_label c.open_apart-opened.result.kind) (children_forest c.open_apart-opened.result.children) (node_tree c.args.n)
+    c.requires.fits (front_opened (node_tree c.args.n) (kind_label c.open_apart-opened.result.kind) (children_forest c.open_apart-opened.result.children) c.open_apart-opened.ensures.0 c.open_apart-opened.ensures.1 c.in_ok-add_front.ensures) (puts c.note.new.reads.items) (puts c.nodes.new.reads.items) c.mark-mark.ensures.settled c.mark-mark.ensures.ready c.in_ok-nodes.ensures c.leave.ensures in
     record { fits = grown_fits g c.requires.fits; room = grown_room c.args.place.base g c.requires.room }
 
 pub node-returns : goal.node-returns
 node-returns t c = call_gives c.behind.result (λ last.
-    node_read c.args.self.now c.args.place c.below-below.result c.args.tables.now c.add_front.new.ready c.nodes.new.tables c.leave.new.self c.mark-mark.result (kind_label c.open-opened.result.kind) (children_forest c.open-opened.result.children) (node_tree c.args.n)
-    c.requires.fits c.in_ok-add_front.ensures c.behind.new.tables c.next-next.result c.is_nowhere.result (puts c.args.reads.now.items) (puts c.note.new.reads.items) (puts c.nodes.new.reads.items)
-    c.open-opened.ensures.0 c.open-opened.ensures.1 c.in_ok-note.ensures c.mark-mark.ensures.settled c.mark-mark.ensures.ready c.next-next.ensures c.is_nowhere.ensures c.below-below.ensures c.in_ok-nodes.ensures c.leave.ensures last) c.behind.ensures
+    node_read c.args.self.now c.args.place c.below-below.result c.args.tables.now c.add_front.new.ready c.nodes.new.tables c.leave.new.self c.mark-mark.result (kind_label c.open_apart-opened.result.kind) (children_forest c.open_apart-opened.result.children) (node_tree c.args.n)
+    c.requires.fits (front_opened (node_tree c.args.n) (kind_label c.open_apart-opened.result.kind) (children_forest c.open_apart-opened.result.children) c.open_apart-opened.ensures.0 c.open_apart-opened.ensures.1 c.in_ok-add_front.ensures) c.behind.new.tables c.next-next.result c.is_nowhere.result (puts c.args.reads.now.items) (puts c.note.new.reads.items) (puts c.nodes.new.reads.items)
+    c.open_apart-opened.ensures.0 c.open_apart-opened.ensures.1 c.in_ok-note.ensures c.mark-mark.ensures.settled c.mark-mark.ensures.ready c.next-next.ensures c.is_nowhere.ensures c.below-below.ensures c.in_ok-nodes.ensures c.leave.ensures last) c.behind.ensures
