@@ -2,12 +2,16 @@
 #![tactic(auto)]
 
 mod blank;
+mod class;
 mod cook;
 mod fault;
 mod literal;
 mod punctuator;
+mod reserved;
 mod scan;
+mod search;
 mod token;
+mod tokens;
 mod word;
 
 pub use cook::{number, text};

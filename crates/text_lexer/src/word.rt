@@ -2,7 +2,11 @@
 ghost use Rattle.std.specs.Prelude.{◌≡◌, ◌≤◌, length};
 ghost use Rattle.text_lexer.specs.Words.{word_part};
 
+use crate::class::Class;
+use crate::reserved::{kind_of_long, kind_of_short};
+use crate::search::LANES;
 use crate::token::Kind;
+use std::simd::prelude::*;
 
 /// Whether a byte is an ASCII letter, a digit, `_` or `$`.
 #[inline(always)]
@@ -13,20 +17,76 @@ pub fn is_word_part(byte: u8) -> bool
 }
 
 /// How many bytes at the front may stand in a name.
-#[inline(always)]
+#[inline(never)]
 pub(crate) fn word_len(bytes: &[u8]) -> usize
     ensures { result ≤ length bytes.now }
 {
     for (i, byte) in bytes.iter().enumerate() {
-        if !is_word_part(*byte) {
+        if !Class::of(*byte).is_part() {
             return i;
         }
     }
     bytes.len()
 }
 
+/// How many bytes at the front of a block may stand in a name.
+#[inline(always)]
+pub(crate) fn word_len_in(block: &[u8; LANES]) -> usize
+    ensures { result ≤ 16 }
+{
+    let block = u8x16::from_array(*block);
+    let from_letter = (block | u8x16::splat(0x20)) - u8x16::splat(b'a');
+    let from_digit = block - u8x16::splat(b'0');
+    let stops = from_letter.simd_ge(u8x16::splat(26))
+        & from_digit.simd_ge(u8x16::splat(10))
+        & block.simd_ne(u8x16::splat(b'_'))
+        & block.simd_ne(u8x16::splat(b'$'));
+    (stops.to_bitmask().trailing_zeros() as usize).min(LANES)
+}
+
+/// What the word is that a block begins with.
+#[inline(always)]
+pub(crate) fn kind_in(block: &[u8; LANES], len: usize) -> Kind
+    requires { len ≤ 16 }
+{
+    if len > 8 {
+        return kind_of_long(&block[..len]);
+    }
+    let head = match block.first_chunk::<8>() {
+        Some(head) => u64::from_le_bytes(*head),
+        None => 0,
+    };
+    kind_of_short(head.wrapping_shl((64 - 8 * len) as u32))
+}
+
+/// What a word is.
+fn kind_of_word(word: &[u8]) -> Kind {
+    if word.len() > 8 {
+        return kind_of_long(word);
+    }
+    let mut letters = 0;
+    for byte in word {
+        letters = letters >> 8 | u64::from(*byte) << 56;
+    }
+    kind_of_short(letters)
+}
+
+/// The name or the reserved word at a place, and where it ends.
+#[inline(never)]
+pub(crate) fn word_at(text: &str, start: usize) -> (Kind, usize) {
+    let rest = text.as_bytes().get(start..).unwrap_or(b"");
+    let len = word_len(rest);
+    let end = start.saturating_add(len);
+    let wide_end = wide_name_end(text, end);
+    if wide_end > end {
+        (Kind::WideName, wide_end)
+    } else {
+        (kind_of_word(&rest[..len]), end)
+    }
+}
+
 /// How many bytes the character past ASCII, or the escape, at the front has that may go on with a name. 0 where there is none.
-pub(crate) fn wide_len(text: &str) -> usize {
+fn wide_len(text: &str) -> usize {
     let Some(first) = text.chars().next() else {
         return 0;
     };
@@ -39,6 +99,23 @@ pub(crate) fn wide_len(text: &str) -> usize {
     } else {
         0
     }
+}
+
+/// Where a name ends whose first part ends at a place, and that goes on with more than ASCII.
+#[inline(never)]
+pub(crate) fn wide_name_end(text: &str, start: usize) -> usize {
+    let bytes = text.as_bytes();
+    let mut end = start;
+    for _ in 0..bytes.len() {
+        let len = wide_len(text.get(end..).unwrap_or(""));
+        if len == 0 {
+            break;
+        }
+        end = end.saturating_add(len);
+        let rest = bytes.get(end..).unwrap_or(b"");
+        end = end.saturating_add(word_len(rest));
+    }
+    end
 }
 
 /// How long the escape of a character is that stands at the front.
@@ -62,108 +139,4 @@ fn escape_len(bytes: &[u8]) -> usize {
         }
     }
     0
-}
-
-/// A reserved word, and its kind.
-type Reserved = (&'static [u8], Kind);
-
-// reserved words by their first letter, where they are many
-static C_WORDS: [Reserved; 5] = [
-    (b"const", Kind::Const),
-    (b"case", Kind::Case),
-    (b"catch", Kind::Catch),
-    (b"class", Kind::Class),
-    (b"continue", Kind::Continue),
-];
-
-static D_WORDS: [Reserved; 4] = [
-    (b"default", Kind::Default),
-    (b"do", Kind::Do),
-    (b"delete", Kind::Delete),
-    (b"debugger", Kind::Debugger),
-];
-
-static E_WORDS: [Reserved; 4] = [
-    (b"else", Kind::Else),
-    (b"export", Kind::Export),
-    (b"extends", Kind::Reserved),
-    (b"enum", Kind::Reserved),
-];
-
-static F_WORDS: [Reserved; 4] = [
-    (b"function", Kind::Function),
-    (b"false", Kind::False),
-    (b"for", Kind::For),
-    (b"finally", Kind::Finally),
-];
-
-static I_WORDS: [Reserved; 6] = [
-    (b"if", Kind::If),
-    (b"in", Kind::In),
-    (b"import", Kind::Import),
-    (b"instanceof", Kind::InstanceOf),
-    (b"implements", Kind::Reserved),
-    (b"interface", Kind::Reserved),
-];
-
-static P_WORDS: [Reserved; 4] = [
-    (b"package", Kind::Reserved),
-    (b"private", Kind::Reserved),
-    (b"protected", Kind::Reserved),
-    (b"public", Kind::Reserved),
-];
-
-static S_WORDS: [Reserved; 3] = [
-    (b"switch", Kind::Switch),
-    (b"super", Kind::Super),
-    (b"static", Kind::Reserved),
-];
-
-static T_WORDS: [Reserved; 5] = [
-    (b"this", Kind::This),
-    (b"true", Kind::True),
-    (b"typeof", Kind::TypeOf),
-    (b"throw", Kind::Throw),
-    (b"try", Kind::Try),
-];
-
-/// What a word is.
-pub(crate) fn kind_of_word(word: &[u8]) -> Kind {
-    let [first, second, ..] = word else {
-        return Kind::Name;
-    };
-    // No reserved word has `_`, `$`, a digit or a capital at its second place.
-    if !second.is_ascii_lowercase() {
-        return Kind::Name;
-    }
-    match *first {
-        b'a' => one_of(word, &[(b"await", Kind::Reserved)]),
-        b'b' => one_of(word, &[(b"break", Kind::Break)]),
-        b'c' => one_of(word, &C_WORDS),
-        b'd' => one_of(word, &D_WORDS),
-        b'e' => one_of(word, &E_WORDS),
-        b'f' => one_of(word, &F_WORDS),
-        b'i' => one_of(word, &I_WORDS),
-        b'l' => one_of(word, &[(b"let", Kind::Let)]),
-        b'n' => one_of(word, &[(b"null", Kind::Null), (b"new", Kind::New)]),
-        b'p' => one_of(word, &P_WORDS),
-        b'r' => one_of(word, &[(b"return", Kind::Return)]),
-        b's' => one_of(word, &S_WORDS),
-        b't' => one_of(word, &T_WORDS),
-        b'v' => one_of(word, &[(b"var", Kind::Var), (b"void", Kind::Void)]),
-        b'w' => one_of(word, &[(b"while", Kind::While), (b"with", Kind::With)]),
-        b'y' => one_of(word, &[(b"yield", Kind::Reserved)]),
-        _ => Kind::Name,
-    }
-}
-
-/// The kind of the reserved word that stands here, or that of a name.
-#[inline(always)]
-fn one_of(word: &[u8], reserved: &[Reserved]) -> Kind {
-    for (text, kind) in reserved {
-        if word == *text {
-            return *kind;
-        }
-    }
-    Kind::Name
 }

@@ -1,27 +1,28 @@
 //! Gives each name of a tree its context. Names are met in the order of the text.
+use crate::scopes::Mention;
 use swc_ast::{
     ArrayLit, ArrowExpr, AssignTarget, BinExpr, BlockStmt, BlockStmtOrExpr, CallExpr, CatchClause,
     CondExpr, Decl, ExportNamedSpecifier, Expr, FnExpr, ForStmt, Function, Ident, IfStmt,
     ImportSpecifier, MemberExpr, MemberProp, ModuleDecl, ModuleItem, NewExpr, ObjectLit, Pat, Prop,
-    PropName, PropOrSpread, SeqExpr, Stmt, SwitchCase, SwitchStmt, SyntaxContext, Tpl, TryStmt,
-    VarDecl, VarDeclOrExpr,
+    PropName, PropOrSpread, SeqExpr, Stmt, SwitchCase, SwitchStmt, Tpl, TryStmt, VarDecl,
+    VarDeclOrExpr,
 };
 
-/// The contexts that are still to be given.
+/// What gives names the contexts of their mentions, from the next one on.
 #[derive(Drop)]
 pub(crate) struct Contexts<'a> {
-    contexts: &'a [SyntaxContext],
+    mentions: &'a [Mention],
     next: usize,
 }
 
 impl<'a> Contexts<'a> {
-    pub(crate) fn new(contexts: &'a [SyntaxContext]) -> Contexts<'a> {
-        Contexts { contexts, next: 0 }
+    pub(crate) fn new(mentions: &'a [Mention]) -> Contexts<'a> {
+        Contexts { mentions, next: 0 }
     }
 
     fn name(&mut self, name: &mut Ident) {
-        if let Some(context) = self.contexts.get(self.next) {
-            name.ctxt = *context;
+        if let Some(mention) = self.mentions.get(self.next) {
+            name.ctxt = mention.context;
         }
         self.next = self.next.saturating_add(1);
     }

@@ -1,49 +1,46 @@
 //! `if`, `switch`, `try` and jumps.
-use crate::cursor::{Nested, Parser, inside, part};
+use crate::cursor::{Parser, Read};
 use crate::kept::{take_from, take_last};
-use crate::scopes::ScopeKind;
+use crate::scopes::{Declared, ScopeKind};
 use crate::targets::Target;
 use swc_ast::{
     BreakStmt, CatchClause, ContinueStmt, DUMMY_SP, Expr, IdentName, IfStmt, ReturnStmt, Stmt,
-    SwitchCase, SwitchStmt, ThrowStmt, TryStmt, VarDeclKind,
+    SwitchCase, SwitchStmt, ThrowStmt, TryStmt,
 };
-use text_lexer::{Fault, Kind};
+use text_lexer::Kind;
 
 impl<'a> Parser<'a> {
     #[inline(never)]
     #[cycle(parser)]
-    pub(crate) fn branch(&mut self, room: u32) -> Result<u32, Fault> {
+    pub(crate) fn branch(&mut self, room: u32) -> Read<u32> {
         let start = self.start();
         self.bump();
         let test = self.head(room)?;
+        let mut levels = self.levels;
         let cons = self.boxed_statement(room)?;
-        let alt = if self.take(Kind::Else) {
-            Some(self.boxed_statement(room)?)
-        } else {
-            None
-        };
-        self.branch_of(start, test, cons, alt)
+        levels = levels.max(self.levels);
+        let mut alt = None;
+        if self.take(Kind::Else) {
+            alt = Some(self.boxed_statement(room)?);
+            levels = levels.max(self.levels);
+        }
+        self.branch_of(start, levels, test, cons, alt)
     }
 
     #[inline(never)]
     fn branch_of(
         &mut self,
         start: u32,
-        test: Nested<Box<Expr>>,
-        cons: Nested<Box<Stmt>>,
-        alt: Option<Nested<Box<Stmt>>>,
-    ) -> Result<u32, Fault> {
-        let mut levels = test.levels.max(cons.levels);
-        let mut other = None;
-        if let Some(found) = alt {
-            levels = levels.max(found.levels);
-            other = Some(found.node);
-        }
+        levels: u32,
+        test: Box<Expr>,
+        cons: Box<Stmt>,
+        alt: Option<Box<Stmt>>,
+    ) -> Read<u32> {
         let node = IfStmt {
             span: self.span_from(start),
-            test: test.node,
-            cons: cons.node,
-            alt: other,
+            test,
+            cons,
+            alt,
         };
         self.keep(Stmt::If(node), levels)
     }
@@ -51,27 +48,29 @@ impl<'a> Parser<'a> {
     /// A statement inside another.
     #[inline(never)]
     #[cycle(parser)]
-    pub(crate) fn boxed_statement(&mut self, room: u32) -> Result<Nested<Box<Stmt>>, Fault> {
-        let levels = self.statement(inside(room)?)?;
-        self.boxed(levels)
+    pub(crate) fn boxed_statement(&mut self, room: u32) -> Read<Box<Stmt>> {
+        let inner = self.inside(room)?;
+        self.levels = self.statement(inner)?;
+        self.boxed()
     }
 
-    /// The statement that was kept last, whose levels are given.
+    /// The statement that was kept last.
     #[inline(never)]
-    fn boxed(&mut self, levels: u32) -> Result<Nested<Box<Stmt>>, Fault> {
+    fn boxed(&mut self) -> Read<Box<Stmt>> {
         let stmt = take_last(&mut self.kept.stmts)?;
-        Ok(part(Box::new(self.alloc, stmt)?, levels))
+        Ok(Box::new(self.alloc, stmt)?)
     }
 
     #[inline(never)]
     #[cycle(parser)]
-    pub(crate) fn switch(&mut self, room: u32) -> Result<u32, Fault> {
+    pub(crate) fn switch(&mut self, room: u32) -> Read<u32> {
         let start = self.start();
         self.bump();
         let discriminant = self.head(room)?;
+        let levels = self.levels;
         let first = self.kept.cases.len();
-        let cases = self.cases(room);
-        self.switch_of(start, discriminant, first, cases)
+        let cases = self.cases(room)?;
+        self.switch_of(start, discriminant, first, levels.max(cases))
     }
 
     /// The `switch` over the cases from this one on that were kept.
@@ -79,17 +78,16 @@ impl<'a> Parser<'a> {
     fn switch_of(
         &mut self,
         start: u32,
-        discriminant: Nested<Box<Expr>>,
+        discriminant: Box<Expr>,
         first: usize,
-        cases: Result<u32, Fault>,
-    ) -> Result<u32, Fault> {
-        let levels = discriminant.levels.max(cases?);
+        levels: u32,
+    ) -> Read<u32> {
         self.targets.pop(Target::Switch);
-        self.scopes.close()?;
+        self.scopes.close();
         self.expect(Kind::RightBrace)?;
         let node = SwitchStmt {
             span: self.span_from(start),
-            discriminant: discriminant.node,
+            discriminant,
             cases: take_from(&mut self.kept.cases, first)?,
         };
         self.keep(Stmt::Switch(node), levels)
@@ -98,10 +96,10 @@ impl<'a> Parser<'a> {
     /// Keeps the cases of a `switch`, of which one at most is `default`, and returns their levels.
     #[inline(never)]
     #[cycle(parser)]
-    fn cases(&mut self, room: u32) -> Result<u32, Fault> {
+    fn cases(&mut self, room: u32) -> Read<u32> {
         self.expect(Kind::LeftBrace)?;
         self.scopes.open(ScopeKind::Block)?;
-        self.targets.push(Target::Switch)?;
+        self.targets.push(Target::Switch);
         let mut levels = 0;
         let mut has_default = false;
         for _ in self.place..self.tokens.len() {
@@ -119,26 +117,28 @@ impl<'a> Parser<'a> {
     /// Keeps a case, and returns its levels.
     #[inline(never)]
     #[cycle(parser)]
-    fn case(&mut self, room: u32) -> Result<u32, Fault> {
+    fn case(&mut self, room: u32) -> Read<u32> {
         let start = self.start();
         let test = self.case_test(room)?;
+        let levels = self.levels;
         let first = self.kept.stmts.len();
-        let cons = self.statements(room);
-        self.case_of(start, test, first, cons)
+        let cons = self.statements(room)?;
+        self.case_of(start, test, first, levels.max(cons))
     }
 
     /// What a case is for, with its colon.
     #[inline(never)]
     #[cycle(parser)]
-    fn case_test(&mut self, room: u32) -> Result<Nested<Option<Box<Expr>>>, Fault> {
+    fn case_test(&mut self, room: u32) -> Read<Option<Box<Expr>>> {
         if self.take(Kind::Default) {
             self.expect(Kind::Colon)?;
-            return Ok(part(None, 0));
+            self.levels = 0;
+            return Ok(None);
         }
         self.expect(Kind::Case)?;
-        let found = self.expression(inside(room)?)?;
+        let found = self.expression_inside(room)?;
         let test = self.closed(found, Kind::Colon)?;
-        Ok(part(Some(test.node), test.levels))
+        Ok(Some(test))
     }
 
     /// Keeps a case with the statements from this one on that were kept.
@@ -146,14 +146,13 @@ impl<'a> Parser<'a> {
     fn case_of(
         &mut self,
         start: u32,
-        test: Nested<Option<Box<Expr>>>,
+        test: Option<Box<Expr>>,
         first: usize,
-        cons: Result<u32, Fault>,
-    ) -> Result<u32, Fault> {
-        let levels = test.levels.max(cons?);
+        levels: u32,
+    ) -> Read<u32> {
         let node = SwitchCase {
             span: self.span_from(start),
-            test: test.node,
+            test,
             cons: take_from(&mut self.kept.stmts, first)?,
         };
         self.kept.cases.push(node)?;
@@ -162,96 +161,81 @@ impl<'a> Parser<'a> {
 
     #[inline(never)]
     #[cycle(parser)]
-    pub(crate) fn attempt(&mut self, room: u32) -> Result<u32, Fault> {
+    pub(crate) fn attempt(&mut self, room: u32) -> Read<u32> {
         let start = self.start();
         self.bump();
-        let levels = self.block(room, ScopeKind::Block)?;
-        let mut begun = self.attempt_begun(levels)?;
-        let rest = self.attempt_behind(room, &mut begun);
-        self.attempt_of(start, begun, rest)
+        let mut levels = self.block(room, ScopeKind::Block)?;
+        let mut begun = self.attempt_begun()?;
+        levels = levels.max(self.attempt_behind(room, &mut begun)?);
+        self.attempt_of(start, begun, levels)
     }
 
-    /// A `try` without what stands behind its block, which was kept last and has so many levels.
+    /// A `try` without what stands behind its block, which was kept last.
     #[inline(never)]
-    fn attempt_begun(&mut self, levels: u32) -> Result<Nested<Box<TryStmt>>, Fault> {
+    fn attempt_begun(&mut self) -> Read<Box<TryStmt>> {
         let node = TryStmt {
             span: DUMMY_SP,
             block: take_last(&mut self.kept.blocks)?,
             handler: None,
             finalizer: None,
         };
-        Ok(part(Box::new(self.alloc, node)?, levels))
+        Ok(Box::new(self.alloc, node)?)
     }
 
-    /// `catch` and `finally` behind the block of a `try`, of which one at least must stand there.
+    /// `catch` and `finally` behind the block of a `try`, of which one at least must stand there. Their levels are returned.
     #[inline(never)]
     #[cycle(parser)]
-    fn attempt_behind(&mut self, room: u32, begun: &mut Nested<Box<TryStmt>>) -> Result<(), Fault> {
+    fn attempt_behind(&mut self, room: u32, begun: &mut Box<TryStmt>) -> Read<u32> {
         if !matches!(self.kind(), Kind::Catch | Kind::Finally) {
             return Err(self.refuse());
         }
+        let mut levels = 0;
         if self.is_at(Kind::Catch) {
-            self.handler(room, begun)?;
+            levels = self.handler(room, begun)?;
         }
         if self.take(Kind::Finally) {
-            let levels = self.block(room, ScopeKind::Block)?;
-            self.set_finalizer(begun, levels)?;
+            levels = levels.max(self.block(room, ScopeKind::Block)?);
+            self.set_finalizer(begun)?;
         }
-        Ok(())
+        Ok(levels)
     }
 
-    /// Gives a `try` the block that was kept last and has so many levels.
+    /// Gives a `try` the block that was kept last.
     #[inline(never)]
-    fn set_finalizer(
-        &mut self,
-        begun: &mut Nested<Box<TryStmt>>,
-        levels: u32,
-    ) -> Result<(), Fault> {
-        begun.levels = begun.levels.max(levels);
-        begun.node.finalizer = Some(take_last(&mut self.kept.blocks)?);
+    fn set_finalizer(&mut self, begun: &mut Box<TryStmt>) -> Read<()> {
+        begun.finalizer = Some(take_last(&mut self.kept.blocks)?);
         Ok(())
     }
 
     #[inline(never)]
-    fn attempt_of(
-        &mut self,
-        start: u32,
-        begun: Nested<Box<TryStmt>>,
-        rest: Result<(), Fault>,
-    ) -> Result<u32, Fault> {
-        rest?;
-        let mut node = begun.node;
+    fn attempt_of(&mut self, start: u32, begun: Box<TryStmt>, levels: u32) -> Read<u32> {
+        let mut node = begun;
         node.span = self.span_from(start);
-        self.keep(Stmt::Try(node), begun.levels)
+        self.keep(Stmt::Try(node), levels)
     }
 
-    /// Gives a `try` the `catch` that stands here.
+    /// Gives a `try` the `catch` that stands here, and returns the levels of its statements.
     #[inline(never)]
     #[cycle(parser)]
-    fn handler(&mut self, room: u32, begun: &mut Nested<Box<TryStmt>>) -> Result<(), Fault> {
+    fn handler(&mut self, room: u32, begun: &mut Box<TryStmt>) -> Read<u32> {
         let start = self.start();
         self.bump();
         self.scopes.open(ScopeKind::Block)?;
         let has_param = self.caught()?;
         let levels = self.block(room, ScopeKind::CatchBody)?;
-        begun.levels = begun.levels.max(levels);
-        self.handler_of(start, has_param, begun)
+        self.handler_of(start, has_param, begun)?;
+        Ok(levels)
     }
 
     #[inline(never)]
-    fn handler_of(
-        &mut self,
-        start: u32,
-        has_param: bool,
-        begun: &mut Nested<Box<TryStmt>>,
-    ) -> Result<(), Fault> {
-        self.scopes.close()?;
+    fn handler_of(&mut self, start: u32, has_param: bool, begun: &mut Box<TryStmt>) -> Read<()> {
+        self.scopes.close();
         let param = if has_param {
             self.kept.names.pop()
         } else {
             None
         };
-        begun.node.handler = Some(CatchClause {
+        begun.handler = Some(CatchClause {
             span: self.span_from(start),
             param,
             body: take_last(&mut self.kept.blocks)?,
@@ -261,13 +245,12 @@ impl<'a> Parser<'a> {
 
     /// Keeps the parameter of a `catch`, and says whether it has one.
     #[inline(never)]
-    fn caught(&mut self) -> Result<bool, Fault> {
+    fn caught(&mut self) -> Read<bool> {
         if !self.take(Kind::LeftParen) {
             return Ok(false);
         }
-        let token = self.token();
-        let mut name = self.bound_or_pattern()?;
-        name.ctxt = self.declare(VarDeclKind::Let, token)?;
+        self.refuse_destructuring()?;
+        let name = self.declared(Declared::Lexical)?;
         self.expect(Kind::RightParen)?;
         self.kept.names.push(name)?;
         Ok(true)
@@ -275,7 +258,7 @@ impl<'a> Parser<'a> {
 
     #[inline(never)]
     #[cycle(parser)]
-    pub(crate) fn leave_function(&mut self, room: u32) -> Result<u32, Fault> {
+    pub(crate) fn leave_function(&mut self, room: u32) -> Read<u32> {
         if !self.targets.is_in_function() {
             return Err(self.refuse());
         }
@@ -285,12 +268,13 @@ impl<'a> Parser<'a> {
         if next.on_new_line || matches!(next.kind, Kind::Semicolon | Kind::RightBrace | Kind::End) {
             return self.return_of(start, None, 0);
         }
-        let found = self.expression(inside(room)?)?;
-        self.return_of(start, Some(found.node), found.levels)
+        let found = self.expression_inside(room)?;
+        let levels = self.levels;
+        self.return_of(start, Some(found), levels)
     }
 
     #[inline(never)]
-    fn return_of(&mut self, start: u32, arg: Option<Box<Expr>>, levels: u32) -> Result<u32, Fault> {
+    fn return_of(&mut self, start: u32, arg: Option<Box<Expr>>, levels: u32) -> Read<u32> {
         self.semicolon()?;
         let span = self.span_from(start);
         self.keep(Stmt::Return(ReturnStmt { span, arg }), levels)
@@ -298,27 +282,27 @@ impl<'a> Parser<'a> {
 
     #[inline(never)]
     #[cycle(parser)]
-    pub(crate) fn throw(&mut self, room: u32) -> Result<u32, Fault> {
+    pub(crate) fn throw(&mut self, room: u32) -> Read<u32> {
         let start = self.start();
         self.bump();
         if self.token().on_new_line {
             return Err(self.refuse());
         }
-        let found = self.expression(inside(room)?)?;
+        let found = self.expression_inside(room)?;
         self.throw_of(start, found)
     }
 
     #[inline(never)]
-    fn throw_of(&mut self, start: u32, found: Nested<Box<Expr>>) -> Result<u32, Fault> {
+    fn throw_of(&mut self, start: u32, arg: Box<Expr>) -> Read<u32> {
         self.semicolon()?;
         let span = self.span_from(start);
-        let arg = found.node;
-        self.keep(Stmt::Throw(ThrowStmt { span, arg }), found.levels)
+        let levels = self.levels;
+        self.keep(Stmt::Throw(ThrowStmt { span, arg }), levels)
     }
 
     /// `break` and `continue`, where they lead somewhere.
     #[inline(never)]
-    pub(crate) fn jump(&mut self) -> Result<u32, Fault> {
+    pub(crate) fn jump(&mut self) -> Read<u32> {
         let first = self.token();
         let is_break = matches!(first.kind, Kind::Break);
         self.bump();
@@ -330,7 +314,7 @@ impl<'a> Parser<'a> {
             label = Some(self.word()?);
         }
         if !self.targets.is_target(name, is_break) {
-            return Err(Fault::Syntax { at: first.start });
+            return Err(self.refuse_at(first.start));
         }
         self.semicolon()?;
         let span = self.span_from(first.start);

@@ -5,7 +5,7 @@ use crate::exports::Exports;
 use crate::kept::Kept;
 use crate::scopes::Scopes;
 use crate::targets::Targets;
-use std::alloc::Global;
+use std::alloc::{AllocError, AllocFailed, Global};
 use swc_ast::{DUMMY_SP, Expr, Mark, Span, Stmt};
 use text_lexer::{Construct, Fault, Kind, Token};
 
@@ -15,6 +15,25 @@ const MOST_LEVELS: u32 = 1000;
 /// How deep the parser's functions may call one another: a level and its parentheses take two.
 pub(crate) const ROOM: u32 = 2 * MOST_LEVELS;
 
+/// That the text is refused. Why is noted by the parser.
+#[derive(Clone, Copy)]
+pub(crate) struct Refused;
+
+/// What was read, where the text is not refused.
+pub(crate) type Read<T> = Result<T, Refused>;
+
+impl From<AllocError> for Refused {
+    fn from(_error: AllocError) -> Refused {
+        Refused
+    }
+}
+
+impl<T: Drop> From<AllocFailed<T>> for Refused {
+    fn from(_error: AllocFailed<T>) -> Refused {
+        Refused
+    }
+}
+
 /// What reads a text's tokens from left to right.
 #[derive(Drop)]
 pub(crate) struct Parser<'a> {
@@ -22,6 +41,16 @@ pub(crate) struct Parser<'a> {
     pub(crate) text: &'a str,
     pub(crate) tokens: &'a [Token],
     pub(crate) place: usize,
+    /// the token at the place
+    now: Token,
+    /// where the token before ends
+    end: u32,
+    /// how many levels of expressions and statements that has which was read last
+    pub(crate) levels: u32,
+    /// whether the expression that was read last stood in parentheses
+    pub(crate) is_wrapped: bool,
+    /// why the text is refused: memory, until another reason is noted
+    pub(crate) fault: Fault,
     /// the place of an `in` that the head of a `for` may not have
     pub(crate) refused_in: usize,
     /// the place behind the labels that stand before one statement and were read last
@@ -36,42 +65,14 @@ pub(crate) struct Parser<'a> {
     pub(crate) exports: Exports<'a>,
 }
 
-/// A node, how many levels of expressions and statements it has, and whether it stood in parentheses.
-#[derive(Drop)]
-pub(crate) struct Nested<T> {
-    pub(crate) node: T,
-    pub(crate) levels: u32,
-    pub(crate) wrapped: bool,
-}
-
-/// One level less.
-#[inline(always)]
-pub(crate) fn inside(room: u32) -> Result<u32, Fault>
-    ensures { IfOk result (λ r. r + 1 ≡ room) }
-{
-    if room == 0 {
-        return Err(Fault::TooDeep);
-    }
-    Ok(room - 1)
-}
-
-/// The levels of an expression or a statement round parts that have so many.
-#[inline(always)]
-fn level_round(levels: u32) -> Result<u32, Fault> {
-    if levels >= MOST_LEVELS {
-        return Err(Fault::TooDeep);
-    }
-    Ok(levels + 1)
-}
-
-/// A part that is itself no expression and no statement.
-pub(crate) fn part<T>(node: T, levels: u32) -> Nested<T> {
-    Nested {
-        node,
-        levels,
-        wrapped: false,
-    }
-}
+/// What stands behind the last token.
+const NO_TOKEN: Token = Token {
+    start: 0,
+    end: 0,
+    closed_by: 0,
+    kind: Kind::End,
+    on_new_line: false,
+};
 
 impl<'a> Parser<'a> {
     pub(crate) fn new(
@@ -79,16 +80,22 @@ impl<'a> Parser<'a> {
         text: &'a str,
         tokens: &'a [Token],
         mark: Mark,
-    ) -> Result<Parser<'a>, Fault> {
+    ) -> Result<Parser<'a>, AllocError> {
         let mut has_chains = false;
         for token in tokens {
             has_chains = has_chains || token.kind as u8 == Kind::OptionalDot as u8;
         }
+        let now = tokens.first().copied().unwrap_or(NO_TOKEN);
         Ok(Parser {
             alloc,
             text,
             tokens,
             place: 0,
+            now,
+            end: now.end,
+            levels: 0,
+            is_wrapped: false,
+            fault: Fault::OutOfMemory,
             refused_in: usize::MAX,
             labels_end: 0,
             has_chains,
@@ -100,24 +107,46 @@ impl<'a> Parser<'a> {
         })
     }
 
+    /// One level less.
+    #[inline(always)]
+    pub(crate) fn inside(&mut self, room: u32) -> Read<u32>
+        ensures { IfOk result (λ r. r + 1 ≡ room) }
+    {
+        if room == 0 {
+            return Err(self.refuse_for(Fault::TooDeep));
+        }
+        Ok(room - 1)
+    }
+
+    /// The levels of an expression or a statement round parts that have so many.
+    #[inline(always)]
+    fn level_round(&mut self, levels: u32) -> Read<u32> {
+        if levels >= MOST_LEVELS {
+            return Err(self.refuse_for(Fault::TooDeep));
+        }
+        Ok(levels + 1)
+    }
+
     /// An expression round parts that have so many levels.
-    pub(crate) fn nest(&self, node: Expr, levels: u32) -> Result<Nested<Box<Expr>>, Fault> {
-        let levels = level_round(levels)?;
-        Ok(part(Box::new(self.alloc, node)?, levels))
+    #[inline(always)]
+    pub(crate) fn nest(&mut self, node: Expr, levels: u32) -> Read<Box<Expr>> {
+        let expr = Box::new(self.alloc, node)?;
+        self.levels = self.level_round(levels)?;
+        self.is_wrapped = false;
+        Ok(expr)
     }
 
     /// Keeps a statement round parts that have so many levels, until the list ends that it stands in or the statement round it is
     /// made. Its own levels are returned.
-    #[inline(never)]
-    pub(crate) fn keep(&mut self, stmt: Stmt, levels: u32) -> Result<u32, Fault> {
-        let levels = level_round(levels)?;
+    #[inline(always)]
+    pub(crate) fn keep(&mut self, stmt: Stmt, levels: u32) -> Read<u32> {
         self.kept.stmts.push(stmt)?;
-        Ok(levels)
+        self.level_round(levels)
     }
 
     /// Keeps an expression of a list, without its box.
     #[inline(never)]
-    pub(crate) fn keep_expr(&mut self, expr: Box<Expr>) -> Result<(), Fault> {
+    pub(crate) fn keep_expr(&mut self, expr: Box<Expr>) -> Read<()> {
         self.kept.exprs.push(Box::into_inner(expr))?;
         Ok(())
     }
@@ -126,30 +155,24 @@ impl<'a> Parser<'a> {
     pub(crate) fn token_at(&self, place: usize) -> Token {
         match self.tokens.get(place) {
             Some(token) => *token,
-            None => Token {
-                start: 0,
-                end: 0,
-                closed_by: 0,
-                kind: Kind::End,
-                on_new_line: false,
-            },
+            None => NO_TOKEN,
         }
     }
 
     #[inline(always)]
     pub(crate) fn token(&self) -> Token {
-        self.token_at(self.place)
+        self.now
     }
 
     #[inline(always)]
     pub(crate) fn kind(&self) -> Kind {
-        self.token().kind
+        self.now.kind
     }
 
     /// The token behind this one.
     #[inline(always)]
     pub(crate) fn next(&self) -> Token {
-        self.token_at(self.place.saturating_add(1))
+        self.token_at(self.place.wrapping_add(1))
     }
 
     /// What the token behind this one is.
@@ -160,13 +183,7 @@ impl<'a> Parser<'a> {
 
     #[inline(always)]
     pub(crate) fn start(&self) -> u32 {
-        self.token().start
-    }
-
-    /// Where the token before ends.
-    #[inline(always)]
-    pub(crate) fn end(&self) -> u32 {
-        self.token_at(self.place.saturating_sub(1)).end
+        self.now.start
     }
 
     /// The span from an offset to where the token before ends, or a dummy one where nodes get none.
@@ -175,16 +192,20 @@ impl<'a> Parser<'a> {
         if !self.has_spans {
             return DUMMY_SP;
         }
-        let end = self.end();
         Span {
-            lo: start.saturating_add(1),
-            hi: end.max(start).saturating_add(1),
+            lo: start.wrapping_add(1),
+            hi: self.end.max(start).wrapping_add(1),
         }
     }
 
     #[inline(always)]
     pub(crate) fn bump(&mut self) {
-        self.place = self.place.saturating_add(1);
+        self.end = self.now.end;
+        self.place = self.place.wrapping_add(1);
+        match self.tokens.get(self.place) {
+            Some(token) => self.now = *token,
+            None => self.now = NO_TOKEN,
+        }
     }
 
     #[inline(always)]
@@ -203,7 +224,7 @@ impl<'a> Parser<'a> {
     }
 
     #[inline(always)]
-    pub(crate) fn expect(&mut self, kind: Kind) -> Result<(), Fault> {
+    pub(crate) fn expect(&mut self, kind: Kind) -> Read<()> {
         if self.take(kind) {
             Ok(())
         } else {
@@ -211,15 +232,33 @@ impl<'a> Parser<'a> {
         }
     }
 
-    pub(crate) fn refuse(&self) -> Fault {
-        Fault::Syntax { at: self.start() }
+    /// Notes why the text is refused.
+    #[cold]
+    #[inline(never)]
+    pub(crate) fn refuse_for(&mut self, fault: Fault) -> Refused {
+        self.fault = fault;
+        Refused
     }
 
-    pub(crate) fn leave_out(&self, what: Construct) -> Fault {
-        Fault::OutOfCore {
-            at: self.start(),
-            what,
-        }
+    /// Refuses the token here.
+    pub(crate) fn refuse(&mut self) -> Refused {
+        let at = self.start();
+        self.refuse_at(at)
+    }
+
+    /// Refuses the token that begins at an offset.
+    #[cold]
+    #[inline(never)]
+    pub(crate) fn refuse_at(&mut self, at: u32) -> Refused {
+        self.refuse_for(Fault::Syntax { at })
+    }
+
+    /// Refuses what begins at the token here and is left out of the core.
+    #[cold]
+    #[inline(never)]
+    pub(crate) fn leave_out(&mut self, what: Construct) -> Refused {
+        let at = self.start();
+        self.refuse_for(Fault::OutOfCore { at, what })
     }
 
     /// The text of a token.
@@ -232,22 +271,17 @@ impl<'a> Parser<'a> {
 
     /// An expression that ends before this token, which is passed.
     #[inline(never)]
-    pub(crate) fn closed(
-        &mut self,
-        found: Nested<Box<Expr>>,
-        end: Kind,
-    ) -> Result<Nested<Box<Expr>>, Fault> {
+    pub(crate) fn closed(&mut self, found: Box<Expr>, end: Kind) -> Read<Box<Expr>> {
         self.expect(end)?;
         Ok(found)
     }
 
     /// The end of a statement: a semicolon, or where one may be missing (ECMA-262, 12.10).
-    pub(crate) fn semicolon(&mut self) -> Result<(), Fault> {
-        let token = self.token();
-        if self.take(Kind::Semicolon) {
-            return Ok(());
-        }
-        if token.on_new_line || matches!(token.kind, Kind::RightBrace | Kind::End) {
+    pub(crate) fn semicolon(&mut self) -> Read<()> {
+        if self.take(Kind::Semicolon)
+            || self.now.on_new_line
+            || matches!(self.kind(), Kind::RightBrace | Kind::End)
+        {
             return Ok(());
         }
         Err(self.refuse())

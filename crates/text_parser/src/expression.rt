@@ -1,21 +1,16 @@
 //! Expressions with operators. What is named `.._behind` goes on behind an operand that was read.
-use crate::cursor::{Nested, Parser, inside};
+use crate::cursor::{Parser, Read};
 use crate::kept::{take_from, take_last};
-use crate::names::target;
-use crate::operators::{assign_op, binary_op, unary_op, update_op};
+use crate::operators::{assign_op, binary_op, is_prefix, unary_op, update_op};
 use swc_ast::{
     AssignExpr, AssignOp, BinExpr, BinaryOp, CondExpr, Expr, SeqExpr, UnaryExpr, UnaryOp,
     UpdateExpr, UpdateOp,
 };
-use text_lexer::{Construct, Fault, Kind};
+use text_lexer::{Construct, Kind};
 
-/// Whether an operator may not stand behind this operand without parentheses.
-#[inline(never)]
-fn clashes(op: BinaryOp, operand: &Nested<Box<Expr>>) -> bool {
-    if operand.wrapped {
-        return false;
-    }
-    match &*operand.node {
+/// Whether an operator may not stand behind this operand, which has no parentheses.
+fn clashes(op: BinaryOp, operand: &Expr) -> bool {
+    match operand {
         Expr::Bin(node) => match op {
             BinaryOp::NullishCoalescing => {
                 matches!(node.op, BinaryOp::LogicalOr | BinaryOp::LogicalAnd)
@@ -41,7 +36,7 @@ fn beyond(op: BinaryOp, strength: u8) -> u8 {
 
 /// Whether a token ends each operand and each assignment before it.
 #[inline(always)]
-fn ends_operand(kind: Kind) -> bool {
+pub(crate) fn ends_operand(kind: Kind) -> bool {
     matches!(
         kind,
         Kind::Comma
@@ -53,21 +48,24 @@ fn ends_operand(kind: Kind) -> bool {
     )
 }
 
-/// Refuses a name by itself under `delete`.
-fn refuse_name(operand: &Expr) -> Result<(), Fault> {
-    match operand {
-        Expr::Ident(name) => {
-            Err(Fault::Syntax {
-                at: name.span.lo.saturating_sub(1),
-            })
-        }
-        _ => Ok(()),
-    }
+/// Whether a token goes on behind an operand as a member, a call or an update.
+#[inline(always)]
+fn goes_on(kind: Kind) -> bool {
+    matches!(
+        kind,
+        Kind::Dot
+            | Kind::LeftParen
+            | Kind::LeftBracket
+            | Kind::Template
+            | Kind::TemplateHead
+            | Kind::PlusPlus
+            | Kind::MinusMinus
+    )
 }
 
 impl<'a> Parser<'a> {
     #[cycle(parser)]
-    pub(crate) fn expression(&mut self, room: u32) -> Result<Nested<Box<Expr>>, Fault> {
+    pub(crate) fn expression(&mut self, room: u32) -> Read<Box<Expr>> {
         let start = self.start();
         let first = self.assignment(room)?;
         if !self.is_at(Kind::Comma) {
@@ -79,8 +77,9 @@ impl<'a> Parser<'a> {
     /// An expression a level deeper.
     #[inline(always)]
     #[cycle(parser)]
-    pub(crate) fn expression_inside(&mut self, room: u32) -> Result<Nested<Box<Expr>>, Fault> {
-        self.expression(inside(room)?)
+    pub(crate) fn expression_inside(&mut self, room: u32) -> Read<Box<Expr>> {
+        let inner = self.inside(room)?;
+        self.expression(inner)
     }
 
     /// Further expressions behind commas.
@@ -90,40 +89,54 @@ impl<'a> Parser<'a> {
         &mut self,
         room: u32,
         start: u32,
-        first: Nested<Box<Expr>>,
-    ) -> Result<Nested<Box<Expr>>, Fault> {
+        first: Box<Expr>,
+    ) -> Read<Box<Expr>> {
         if !self.is_at(Kind::Comma) {
             return Ok(first);
         }
         let place = self.kept.exprs.len();
-        let mut levels = first.levels;
-        self.keep_expr(first.node)?;
+        let mut levels = self.levels;
+        self.keep_expr(first)?;
         for _ in self.place..self.tokens.len() {
             if !self.take(Kind::Comma) {
                 break;
             }
-            let next = self.assignment(inside(room)?)?;
-            levels = levels.max(next.levels);
-            self.keep_expr(next.node)?;
+            let next = self.assignment_inside(room)?;
+            levels = levels.max(self.levels);
+            self.keep_expr(next)?;
         }
         self.sequence(start, place, levels)
     }
 
     /// What stands between commas: the expressions from this one on that were kept.
     #[inline(never)]
-    fn sequence(
-        &mut self,
-        start: u32,
-        first: usize,
-        levels: u32,
-    ) -> Result<Nested<Box<Expr>>, Fault> {
+    fn sequence(&mut self, start: u32, first: usize, levels: u32) -> Read<Box<Expr>> {
         let exprs = take_from(&mut self.kept.exprs, first)?;
         let span = self.span_from(start);
         self.nest(Expr::Seq(SeqExpr { span, exprs }), levels)
     }
 
+    /// An assignment a level deeper.
+    #[inline(always)]
     #[cycle(parser)]
-    pub(crate) fn assignment(&mut self, room: u32) -> Result<Nested<Box<Expr>>, Fault> {
+    pub(crate) fn assignment_inside(&mut self, room: u32) -> Read<Box<Expr>> {
+        let inner = self.inside(room)?;
+        self.assignment(inner)
+    }
+
+    #[inline(always)]
+    #[cycle(parser)]
+    pub(crate) fn assignment(&mut self, room: u32) -> Read<Box<Expr>> {
+        if self.is_at_leaf() {
+            return self.leaf();
+        }
+        self.longer_assignment(room)
+    }
+
+    /// An assignment that is no name and no literal.
+    #[inline(never)]
+    #[cycle(parser)]
+    fn longer_assignment(&mut self, room: u32) -> Read<Box<Expr>> {
         if self.is_at_arrow() {
             return self.arrow(room);
         }
@@ -142,8 +155,8 @@ impl<'a> Parser<'a> {
         &mut self,
         room: u32,
         start: u32,
-        first: Nested<Box<Expr>>,
-    ) -> Result<Nested<Box<Expr>>, Fault> {
+        first: Box<Expr>,
+    ) -> Read<Box<Expr>> {
         let left = self.binary_behind(room, start, first, 0)?;
         if ends_operand(self.kind()) {
             return Ok(left);
@@ -161,24 +174,24 @@ impl<'a> Parser<'a> {
         &mut self,
         room: u32,
         start: u32,
-        left: Nested<Box<Expr>>,
-    ) -> Result<Nested<Box<Expr>>, Fault> {
+        left: Box<Expr>,
+    ) -> Read<Box<Expr>> {
         let Some(op) = assign_op(self.kind()) else {
             return Ok(left);
         };
         self.bump();
-        let levels = self.keep_target(left, start)?;
-        let right = self.assignment(inside(room)?)?;
+        let levels = self.levels;
+        self.keep_target(left, start)?;
+        let right = self.assignment_inside(room)?;
         self.value(start, op, levels, right)
     }
 
-    /// Keeps what an operand that begins at an offset may be written to as, and returns its levels.
+    /// Keeps what an operand that begins at an offset may be written to as.
     #[inline(never)]
-    fn keep_target(&mut self, operand: Nested<Box<Expr>>, start: u32) -> Result<u32, Fault> {
-        let levels = operand.levels;
-        let found = target(operand, start)?;
+    fn keep_target(&mut self, operand: Box<Expr>, start: u32) -> Read<()> {
+        let found = self.target(operand, start)?;
         self.kept.targets.push(found)?;
-        Ok(levels)
+        Ok(())
     }
 
     /// The assignment to what was kept last and has so many levels.
@@ -188,16 +201,17 @@ impl<'a> Parser<'a> {
         start: u32,
         op: AssignOp,
         levels: u32,
-        right: Nested<Box<Expr>>,
-    ) -> Result<Nested<Box<Expr>>, Fault> {
+        right: Box<Expr>,
+    ) -> Read<Box<Expr>> {
+        let levels = levels.max(self.levels);
         let node = AssignExpr {
             span: self.span_from(start),
             op,
             left: take_last(&mut self.kept.targets)?,
-            right: right.node,
+            right,
         };
         let node = Box::new(self.alloc, node)?;
-        self.nest(Expr::Assign(node), levels.max(right.levels))
+        self.nest(Expr::Assign(node), levels)
     }
 
     /// `? a : b`
@@ -207,41 +221,32 @@ impl<'a> Parser<'a> {
         &mut self,
         room: u32,
         start: u32,
-        test: Nested<Box<Expr>>,
-    ) -> Result<Nested<Box<Expr>>, Fault> {
+        test: Box<Expr>,
+    ) -> Read<Box<Expr>> {
         self.bump();
-        let levels = self.keep_operand(test)?;
-        let cons = self.assignment(inside(room)?)?;
-        let levels = levels.max(self.keep_operand(cons)?);
+        let levels = self.levels;
+        self.kept.operands.push(test)?;
+        let cons = self.assignment_inside(room)?;
+        let levels = levels.max(self.levels);
+        self.kept.operands.push(cons)?;
         self.expect(Kind::Colon)?;
-        let alt = self.assignment(inside(room)?)?;
+        let alt = self.assignment_inside(room)?;
         self.choice(start, levels, alt)
-    }
-
-    /// Keeps an operand, and returns its levels.
-    #[inline(never)]
-    fn keep_operand(&mut self, operand: Nested<Box<Expr>>) -> Result<u32, Fault> {
-        self.kept.operands.push(operand.node)?;
-        Ok(operand.levels)
     }
 
     /// The choice whose test and first value were kept last and have so many levels.
     #[inline(never)]
-    fn choice(
-        &mut self,
-        start: u32,
-        levels: u32,
-        alt: Nested<Box<Expr>>,
-    ) -> Result<Nested<Box<Expr>>, Fault> {
+    fn choice(&mut self, start: u32, levels: u32, alt: Box<Expr>) -> Read<Box<Expr>> {
+        let levels = levels.max(self.levels);
         let cons = take_last(&mut self.kept.operands)?;
         let test = take_last(&mut self.kept.operands)?;
         let node = CondExpr {
             span: self.span_from(start),
             test,
             cons,
-            alt: alt.node,
+            alt,
         };
-        self.nest(Expr::Cond(node), levels.max(alt.levels))
+        self.nest(Expr::Cond(node), levels)
     }
 
     /// Operators that bind more tightly than `least`, with their operands.
@@ -251,112 +256,119 @@ impl<'a> Parser<'a> {
         &mut self,
         room: u32,
         start: u32,
-        first: Nested<Box<Expr>>,
+        first: Box<Expr>,
         least: u8,
-    ) -> Result<Nested<Box<Expr>>, Fault> {
+    ) -> Read<Box<Expr>> {
         let mut left = first;
         for _ in self.place..self.tokens.len() {
-            let Some((op, least_behind)) = self.operator(least) else {
+            let Some((op, strength)) = binary_op(self.kind()) else {
                 break;
             };
-            let right = if clashes(op, &left) {
-                Err(self.refuse())
-            } else {
-                self.right_operand(room, least_behind)
-            };
-            left = self.binary(start, op, left, right)?;
+            if strength <= least || self.place == self.refused_in {
+                break;
+            }
+            if !self.is_wrapped && clashes(op, &*left) {
+                return Err(self.refuse());
+            }
+            let levels = self.levels;
+            let right = self.right_operand(room, beyond(op, strength))?;
+            left = self.binary(start, op, levels, left, right)?;
         }
         Ok(left)
-    }
-
-    /// The operator here, if it binds more tightly than `least`, and what operators bind more tightly than that belong to its right
-    /// operand.
-    #[inline(never)]
-    fn operator(&self, least: u8) -> Option<(BinaryOp, u8)> {
-        let (op, strength) = binary_op(self.kind())?;
-        if strength <= least || self.place == self.refused_in {
-            return None;
-        }
-        Some((op, beyond(op, strength)))
     }
 
     /// The right operand of the operator here, which is passed. Operators belong to it that bind more tightly than `least`.
     #[inline(never)]
     #[cycle(parser)]
-    fn right_operand(&mut self, room: u32, least: u8) -> Result<Nested<Box<Expr>>, Fault> {
+    fn right_operand(&mut self, room: u32, least: u8) -> Read<Box<Expr>> {
         self.bump();
+        let inner = self.inside(room)?;
+        if self.is_at_leaf() {
+            return self.leaf();
+        }
         let start = self.start();
-        let first = self.operand(inside(room)?)?;
+        let first = self.operand(inner)?;
         if ends_operand(self.kind()) {
             return Ok(first);
         }
-        self.binary_behind(inside(room)?, start, first, least)
+        self.binary_behind(inner, start, first, least)
     }
 
+    /// The operator between its operands, the left of which has so many levels.
     #[inline(never)]
     fn binary(
-        &self,
+        &mut self,
         start: u32,
         op: BinaryOp,
-        left: Nested<Box<Expr>>,
-        right: Result<Nested<Box<Expr>>, Fault>,
-    ) -> Result<Nested<Box<Expr>>, Fault> {
-        let right = right?;
-        let levels = left.levels.max(right.levels);
+        levels: u32,
+        left: Box<Expr>,
+        right: Box<Expr>,
+    ) -> Read<Box<Expr>> {
+        let levels = levels.max(self.levels);
         let node = BinExpr {
             span: self.span_from(start),
             op,
-            left: left.node,
-            right: right.node,
+            left,
+            right,
         };
         self.nest(Expr::Bin(node), levels)
     }
 
     /// An operand, with the operators in front of it and what stands behind it.
     #[cycle(parser)]
-    fn operand(&mut self, room: u32) -> Result<Nested<Box<Expr>>, Fault> {
-        let start = self.start();
-        if let Some(op) = unary_op(self.kind()) {
-            return self.unary(room, op);
-        }
-        if let Some(op) = update_op(self.kind()) {
-            return self.update_in_front(room, op);
+    fn operand(&mut self, room: u32) -> Read<Box<Expr>> {
+        if is_prefix(self.kind()) {
+            return self.unary(room);
         }
         if self.has_chains && self.is_at_chain() {
             return Err(self.leave_out(Construct::OptChain));
         }
+        let start = self.start();
         let first = self.primary(room)?;
-        if ends_operand(self.kind()) {
+        if !goes_on(self.kind()) {
             return Ok(first);
         }
         self.operand_behind(room, start, first)
     }
 
+    /// An operator in front of an operand, with its operand.
     #[inline(never)]
     #[cycle(parser)]
-    fn unary(&mut self, room: u32, op: UnaryOp) -> Result<Nested<Box<Expr>>, Fault> {
+    fn unary(&mut self, room: u32) -> Read<Box<Expr>> {
+        let Some(op) = unary_op(self.kind()) else {
+            return self.update_in_front(room);
+        };
         let start = self.start();
         self.bump();
-        let arg = self.operand(inside(room)?)?;
-        if matches!(op, UnaryOp::Delete) {
-            refuse_name(&*arg.node)?;
+        let inner = self.inside(room)?;
+        let arg = self.operand(inner)?;
+        self.unary_of(start, op, arg)
+    }
+
+    #[inline(never)]
+    fn unary_of(&mut self, start: u32, op: UnaryOp, arg: Box<Expr>) -> Read<Box<Expr>> {
+        let levels = self.levels;
+        if matches!(op, UnaryOp::Delete)
+            && let Expr::Ident(name) = &*arg
+        {
+            return Err(self.refuse_at(name.span.lo.saturating_sub(1)));
         }
-        let node = UnaryExpr {
-            span: self.span_from(start),
-            op,
-            arg: arg.node,
-        };
-        self.nest(Expr::Unary(node), arg.levels)
+        let span = self.span_from(start);
+        self.nest(Expr::Unary(UnaryExpr { span, op, arg }), levels)
     }
 
     /// `++a` or `--a`
     #[inline(never)]
     #[cycle(parser)]
-    fn update_in_front(&mut self, room: u32, op: UpdateOp) -> Result<Nested<Box<Expr>>, Fault> {
+    fn update_in_front(&mut self, room: u32) -> Read<Box<Expr>> {
+        let Some(op) = update_op(self.kind()) else {
+            return Err(self.refuse());
+        };
         let start = self.start();
         self.bump();
         let arg_start = self.start();
-        let arg = self.operand(inside(room)?)?;
+        let inner = self.inside(room)?;
+        let arg = self.operand(inner)?;
         self.update(start, op, true, arg, arg_start)
     }
 
@@ -366,28 +378,21 @@ impl<'a> Parser<'a> {
         &mut self,
         room: u32,
         start: u32,
-        first: Nested<Box<Expr>>,
-    ) -> Result<Nested<Box<Expr>>, Fault> {
+        first: Box<Expr>,
+    ) -> Read<Box<Expr>> {
         let found = self.members_behind(room, start, first, true)?;
-        if ends_operand(self.kind()) {
+        if ends_operand(self.kind()) || self.token().on_new_line {
             return Ok(found);
         }
-        self.update_behind(start, found)
+        match update_op(self.kind()) {
+            Some(op) => self.update_behind(start, op, found),
+            None => Ok(found),
+        }
     }
 
-    /// `++` or `--` behind an operand, if it stands there.
+    /// `++` or `--` behind an operand.
     #[inline(never)]
-    fn update_behind(
-        &mut self,
-        start: u32,
-        found: Nested<Box<Expr>>,
-    ) -> Result<Nested<Box<Expr>>, Fault> {
-        if self.token().on_new_line {
-            return Ok(found);
-        }
-        let Some(op) = update_op(self.kind()) else {
-            return Ok(found);
-        };
+    fn update_behind(&mut self, start: u32, op: UpdateOp, found: Box<Expr>) -> Read<Box<Expr>> {
         self.bump();
         self.update(start, op, false, found, start)
     }
@@ -398,15 +403,15 @@ impl<'a> Parser<'a> {
         start: u32,
         op: UpdateOp,
         prefix: bool,
-        arg: Nested<Box<Expr>>,
+        arg: Box<Expr>,
         arg_start: u32,
-    ) -> Result<Nested<Box<Expr>>, Fault> {
-        let levels = arg.levels;
+    ) -> Read<Box<Expr>> {
+        let levels = self.levels;
         let node = UpdateExpr {
             span: self.span_from(start),
             op,
             prefix,
-            arg: target(arg, arg_start)?,
+            arg: self.target(arg, arg_start)?,
         };
         let node = Box::new(self.alloc, node)?;
         self.nest(Expr::Update(node), levels)

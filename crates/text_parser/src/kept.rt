@@ -1,11 +1,10 @@
 //! What was read of nodes and of lists that have not ended.
-use crate::loops::ForHead;
+use crate::cursor::{Read, Refused};
 use std::alloc::Global;
 use swc_ast::{
     AssignTarget, BlockStmt, Expr, ExprOrSpread, Ident, Pat, PropName, PropOrSpread, Stmt,
-    SwitchCase, TplElement, VarDeclarator,
+    SwitchCase, TplElement, VarDeclOrExpr, VarDeclarator,
 };
-use text_lexer::Fault;
 
 /// What was read of nodes and of lists that have not ended, that of the innermost one last.
 #[derive(Drop)]
@@ -13,8 +12,10 @@ pub(crate) struct Kept {
     pub(crate) stmts: Vec<Stmt>,
     /// the blocks of statements and of functions
     pub(crate) blocks: Vec<BlockStmt>,
-    /// the heads of `for`
-    pub(crate) heads: Vec<ForHead>,
+    /// the first parts of `for`
+    pub(crate) inits: Vec<Option<VarDeclOrExpr>>,
+    /// the tests and the last parts of `for`
+    pub(crate) parts: Vec<Option<Box<Expr>>>,
     /// the cases of `switch`
     pub(crate) cases: Vec<SwitchCase>,
     /// the variables of declarations
@@ -39,17 +40,17 @@ pub(crate) struct Kept {
 
 /// Takes the items from this place on off a stack. The list that they make has room for no more.
 #[inline(never)]
-pub(crate) fn take_from<T>(stack: &mut Vec<T>, start: usize) -> Result<Vec<T>, Fault> {
+pub(crate) fn take_from<T>(stack: &mut Vec<T>, start: usize) -> Read<Vec<T>> {
     let start = start.min(stack.len());
     Ok(stack.split_off(start)?)
 }
 
 /// Takes off a stack what was put there last.
-pub(crate) fn take_last<T>(stack: &mut Vec<T>) -> Result<T, Fault> {
+pub(crate) fn take_last<T>(stack: &mut Vec<T>) -> Read<T> {
     match stack.pop() {
         Some(item) => Ok(item),
         // (what takes has put before)
-        None => Err(Fault::Syntax { at: 0 }),
+        None => Err(Refused),
     }
 }
 
@@ -58,7 +59,8 @@ impl Kept {
         Kept {
             stmts: Vec::new(alloc),
             blocks: Vec::new(alloc),
-            heads: Vec::new(alloc),
+            inits: Vec::new(alloc),
+            parts: Vec::new(alloc),
             cases: Vec::new(alloc),
             decls: Vec::new(alloc),
             names: Vec::new(alloc),

@@ -1,5 +1,6 @@
 //! The parser of core text. So that a level of the text takes little of the stack, what builds a node stands in functions of its
-//! own, named `.._of`, and what was read of nodes and lists that have not ended is kept by the parser.
+//! own, named `.._of`, and what was read of nodes and lists that have not ended is kept by the parser. So that results fit in
+//! registers, the parser also notes why it refuses the text, and how many levels that has which was read last.
 #![tactic(auto)]
 
 mod contexts;

@@ -1,6 +1,6 @@
 //! What is told from tokens further on, so that a construct is refused at its first token.
-use crate::cursor::Parser;
-use text_lexer::{Construct, Fault, Kind, Token};
+use crate::cursor::{Parser, Read};
+use text_lexer::{Construct, Kind, Token};
 
 /// Whether a token may end what is written to in the head of a `for`.
 fn ends_operand(kind: Kind) -> bool {
@@ -66,15 +66,19 @@ impl<'a> Parser<'a> {
         behind as u8 == Kind::Arrow as u8
     }
 
-    /// Whether an asynchronous function begins at the name here.
+    /// Whether an asynchronous function begins here.
+    #[inline(always)]
     pub(crate) fn is_at_async(&self) -> bool {
+        self.is_name(self.token(), "async") && self.is_async_head()
+    }
+
+    /// Whether what stands behind the name `async` here makes it the first word of a function.
+    #[inline(never)]
+    fn is_async_head(&self) -> bool {
         let next = self.next();
-        let may_begin = matches!(next.kind, Kind::Function | Kind::Name | Kind::LeftParen);
-        if !may_begin || next.on_new_line || !self.is_name(self.token(), "async") {
-            return false;
-        }
         let place = self.place.saturating_add(1);
         match next.kind {
+            _ if next.on_new_line => false,
             Kind::Function => true,
             Kind::Name => matches!(self.token_at(place.saturating_add(1)).kind, Kind::Arrow),
             Kind::LeftParen => matches!(self.token_at(self.behind(place)).kind, Kind::Arrow),
@@ -84,7 +88,7 @@ impl<'a> Parser<'a> {
 
     /// Refuses destructuring that is written to here, or an operand that is an optional chain.
     #[inline(always)]
-    pub(crate) fn refuse_pattern(&self) -> Result<(), Fault> {
+    pub(crate) fn refuse_pattern(&mut self) -> Read<()> {
         if matches!(self.kind(), Kind::LeftBrace | Kind::LeftBracket)
             && matches!(self.kind_behind_brackets(), Kind::Equal)
         {

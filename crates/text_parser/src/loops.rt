@@ -1,33 +1,26 @@
 //! Loops.
-use crate::cursor::{Nested, Parser, inside, part};
+use crate::cursor::{Parser, Read};
 use crate::kept::take_last;
 use crate::scopes::ScopeKind;
+use crate::statement::Begun;
 use crate::targets::Target;
-use swc_ast::{Expr, ForStmt, Stmt, VarDecl, VarDeclOrExpr, WhileStmt};
-use text_lexer::{Construct, Fault, Kind};
-
-/// What stands before the body of a `for`.
-#[derive(Drop)]
-pub(crate) struct ForHead {
-    init: Option<VarDeclOrExpr>,
-    test: Option<Box<Expr>>,
-    update: Option<Box<Expr>>,
-}
+use swc_ast::{Expr, ForStmt, Stmt, VarDeclOrExpr, WhileStmt};
+use text_lexer::{Construct, Kind};
 
 impl<'a> Parser<'a> {
     /// `(a)`
     #[inline(never)]
     #[cycle(parser)]
-    pub(crate) fn head(&mut self, room: u32) -> Result<Nested<Box<Expr>>, Fault> {
+    pub(crate) fn head(&mut self, room: u32) -> Read<Box<Expr>> {
         self.expect(Kind::LeftParen)?;
-        let test = self.expression(inside(room)?)?;
+        let test = self.expression_inside(room)?;
         self.closed(test, Kind::RightParen)
     }
 
     #[inline(never)]
     #[cycle(parser)]
-    fn loop_body(&mut self, room: u32) -> Result<Nested<Box<Stmt>>, Fault> {
-        self.targets.push(Target::Loop)?;
+    fn loop_body(&mut self, room: u32) -> Read<Box<Stmt>> {
+        self.targets.push(Target::Loop);
         let body = self.boxed_statement(room)?;
         self.targets.pop(Target::Loop);
         Ok(body)
@@ -35,70 +28,66 @@ impl<'a> Parser<'a> {
 
     #[inline(never)]
     #[cycle(parser)]
-    pub(crate) fn while_loop(&mut self, room: u32) -> Result<u32, Fault> {
+    pub(crate) fn while_loop(&mut self, room: u32) -> Read<u32> {
         let start = self.start();
         self.bump();
         let test = self.head(room)?;
-        let body = self.loop_body(room);
-        self.while_loop_of(start, test, body)
+        let levels = self.levels;
+        let body = self.loop_body(room)?;
+        self.while_loop_of(start, levels, test, body)
     }
 
+    /// Keeps the `while` whose test has so many levels.
     #[inline(never)]
     fn while_loop_of(
         &mut self,
         start: u32,
-        test: Nested<Box<Expr>>,
-        body: Result<Nested<Box<Stmt>>, Fault>,
-    ) -> Result<u32, Fault> {
-        let body = body?;
-        let levels = test.levels.max(body.levels);
-        let node = WhileStmt {
-            span: self.span_from(start),
-            test: test.node,
-            body: body.node,
-        };
-        self.keep(Stmt::While(node), levels)
+        levels: u32,
+        test: Box<Expr>,
+        body: Box<Stmt>,
+    ) -> Read<u32> {
+        let levels = levels.max(self.levels);
+        let span = self.span_from(start);
+        self.keep(Stmt::While(WhileStmt { span, test, body }), levels)
     }
 
     #[inline(never)]
     #[cycle(parser)]
-    pub(crate) fn do_loop(&mut self, room: u32) -> Result<u32, Fault> {
+    pub(crate) fn do_loop(&mut self, room: u32) -> Read<u32> {
         let start = self.start();
         self.bump();
         let body = self.loop_body(room)?;
-        let test = self.do_test(room);
-        self.do_loop_of(start, body, test)
+        let levels = self.levels;
+        let test = self.do_test(room)?;
+        self.do_loop_of(start, levels, body, test)
     }
 
     /// `while (a)`
     #[inline(never)]
     #[cycle(parser)]
-    fn do_test(&mut self, room: u32) -> Result<Nested<Box<Expr>>, Fault> {
+    fn do_test(&mut self, room: u32) -> Read<Box<Expr>> {
         self.expect(Kind::While)?;
         self.head(room)
     }
 
+    /// Keeps the `do` whose body has so many levels.
     #[inline(never)]
     fn do_loop_of(
         &mut self,
         start: u32,
-        body: Nested<Box<Stmt>>,
-        test: Result<Nested<Box<Expr>>, Fault>,
-    ) -> Result<u32, Fault> {
-        let test = test?;
+        levels: u32,
+        body: Box<Stmt>,
+        test: Box<Expr>,
+    ) -> Read<u32> {
         self.take(Kind::Semicolon);
-        let levels = test.levels.max(body.levels);
-        let node = WhileStmt {
-            span: self.span_from(start),
-            test: test.node,
-            body: body.node,
-        };
-        self.keep(Stmt::DoWhile(node), levels)
+        let levels = levels.max(self.levels);
+        let span = self.span_from(start);
+        self.keep(Stmt::DoWhile(WhileStmt { span, test, body }), levels)
     }
 
     #[inline(never)]
     #[cycle(parser)]
-    pub(crate) fn for_loop(&mut self, room: u32) -> Result<u32, Fault> {
+    pub(crate) fn for_loop(&mut self, room: u32) -> Read<u32> {
         let start = self.start();
         let levels = self.for_head(room)?;
         let body = self.loop_body(room)?;
@@ -108,40 +97,17 @@ impl<'a> Parser<'a> {
     /// Keeps what stands before the body of a `for`, whose scope is opened, and returns its levels.
     #[inline(never)]
     #[cycle(parser)]
-    fn for_head(&mut self, room: u32) -> Result<u32, Fault> {
+    fn for_head(&mut self, room: u32) -> Read<u32> {
         self.open_for()?;
         let init = self.first_part(room)?;
         let test = self.optional(room, Kind::Semicolon)?;
-        let levels = init.max(self.set_test(test));
         let update = self.optional(room, Kind::RightParen)?;
-        Ok(levels.max(self.set_update(update)))
-    }
-
-    /// Gives the head that was kept last its test, and returns the levels of that.
-    #[inline(never)]
-    fn set_test(&mut self, test: Nested<Option<Box<Expr>>>) -> u32 {
-        let levels = test.levels;
-        let found = test.node;
-        if let Some(head) = self.kept.heads.last_mut() {
-            head.test = found;
-        }
-        levels
-    }
-
-    /// Gives the head that was kept last its last part, and returns the levels of that.
-    #[inline(never)]
-    fn set_update(&mut self, update: Nested<Option<Box<Expr>>>) -> u32 {
-        let levels = update.levels;
-        let found = update.node;
-        if let Some(head) = self.kept.heads.last_mut() {
-            head.update = found;
-        }
-        levels
+        Ok(init.max(test).max(update))
     }
 
     /// Passes `for (`, where no loop over a list or over keys begins, and opens its scope.
     #[inline(never)]
-    fn open_for(&mut self) -> Result<(), Fault> {
+    fn open_for(&mut self) -> Read<()> {
         self.refuse_each_loop()?;
         self.bump();
         self.expect(Kind::LeftParen)?;
@@ -151,27 +117,24 @@ impl<'a> Parser<'a> {
 
     /// Keeps the `for` whose head was kept last and has so many levels.
     #[inline(never)]
-    fn for_loop_of(
-        &mut self,
-        start: u32,
-        levels: u32,
-        body: Nested<Box<Stmt>>,
-    ) -> Result<u32, Fault> {
-        self.scopes.close()?;
-        let head = take_last(&mut self.kept.heads)?;
+    fn for_loop_of(&mut self, start: u32, levels: u32, body: Box<Stmt>) -> Read<u32> {
+        self.scopes.close();
+        let levels = levels.max(self.levels);
+        let update = take_last(&mut self.kept.parts)?;
+        let test = take_last(&mut self.kept.parts)?;
         let node = ForStmt {
             span: self.span_from(start),
-            init: head.init,
-            test: head.test,
-            update: head.update,
-            body: body.node,
+            init: take_last(&mut self.kept.inits)?,
+            test,
+            update,
+            body,
         };
         let node = Box::new(self.alloc, node)?;
-        self.keep(Stmt::For(node), levels.max(body.levels))
+        self.keep(Stmt::For(node), levels)
     }
 
     /// Refuses the `for` here where it goes over a list or over keys.
-    fn refuse_each_loop(&self) -> Result<(), Fault> {
+    fn refuse_each_loop(&mut self) -> Read<()> {
         let next = self.next();
         if matches!(next.kind, Kind::Reserved)
             && self.text_of(next) == "await"
@@ -187,55 +150,59 @@ impl<'a> Parser<'a> {
         }
     }
 
-    /// Keeps the head of a `for` with its first part alone, whose semicolon is passed, and returns the levels of that.
+    /// Keeps the first part of a `for`, whose semicolon is passed, and returns the levels of that.
     #[inline(never)]
     #[cycle(parser)]
-    fn first_part(&mut self, room: u32) -> Result<u32, Fault> {
+    fn first_part(&mut self, room: u32) -> Read<u32> {
         if self.is_at(Kind::Semicolon) {
-            return self.keep_head(None, 0);
+            self.keep_init(None)?;
+            return Ok(0);
         }
         let outer = self.refused_in;
         self.refused_in = self.place_of_in();
         if matches!(self.kind(), Kind::Var | Kind::Let | Kind::Const) {
-            let decl = self.declarators(room, false)?;
+            let begun = self.begin_variables();
+            let levels = self.declarators(room, begun, false)?;
             self.refused_in = outer;
-            return self.first_variables(decl);
+            self.first_variables(begun)?;
+            return Ok(levels);
         }
-        let found = self.expression(inside(room)?)?;
+        let found = self.expression_inside(room)?;
         self.refused_in = outer;
         self.first_expression(found)
     }
 
+    /// Keeps a declaration, whose variables were kept, as the first part of a `for`.
     #[inline(never)]
-    fn first_variables(&mut self, decl: Nested<VarDecl>) -> Result<u32, Fault> {
-        self.keep_head(Some(VarDeclOrExpr::VarDecl(decl.node)), decl.levels)
+    fn first_variables(&mut self, begun: Begun) -> Read<()> {
+        let decl = self.variables(begun)?;
+        self.keep_init(Some(VarDeclOrExpr::VarDecl(decl)))
     }
 
     #[inline(never)]
-    fn first_expression(&mut self, found: Nested<Box<Expr>>) -> Result<u32, Fault> {
-        self.keep_head(Some(VarDeclOrExpr::Expr(found.node)), found.levels)
+    fn first_expression(&mut self, found: Box<Expr>) -> Read<u32> {
+        self.keep_init(Some(VarDeclOrExpr::Expr(found)))?;
+        Ok(self.levels)
     }
 
     #[inline(never)]
-    fn keep_head(&mut self, init: Option<VarDeclOrExpr>, levels: u32) -> Result<u32, Fault> {
+    fn keep_init(&mut self, init: Option<VarDeclOrExpr>) -> Read<()> {
         self.expect(Kind::Semicolon)?;
-        self.kept.heads.push(ForHead {
-            init,
-            test: None,
-            update: None,
-        })?;
-        Ok(levels)
+        self.kept.inits.push(init)?;
+        Ok(())
     }
 
-    /// An expression, if there is one before this token, which is passed.
+    /// Keeps an expression, if there is one before this token, which is passed. Its levels are returned.
     #[inline(never)]
     #[cycle(parser)]
-    fn optional(&mut self, room: u32, end: Kind) -> Result<Nested<Option<Box<Expr>>>, Fault> {
+    fn optional(&mut self, room: u32, end: Kind) -> Read<u32> {
         if self.take(end) {
-            return Ok(part(None, 0));
+            self.kept.parts.push(None)?;
+            return Ok(0);
         }
-        let read = self.expression(inside(room)?)?;
+        let read = self.expression_inside(room)?;
         let found = self.closed(read, end)?;
-        Ok(part(Some(found.node), found.levels))
+        self.kept.parts.push(Some(found))?;
+        Ok(self.levels)
     }
 }

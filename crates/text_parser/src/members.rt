@@ -1,8 +1,8 @@
 //! Members, calls and `new`.
-use crate::cursor::{Nested, Parser, inside, part};
+use crate::cursor::{Parser, Read};
 use crate::kept::take_from;
 use swc_ast::{CallExpr, ComputedPropName, Expr, MemberExpr, MemberProp, NewExpr};
-use text_lexer::{Construct, Fault, Kind};
+use text_lexer::{Construct, Kind};
 
 impl<'a> Parser<'a> {
     /// Members, and calls where they may stand.
@@ -12,72 +12,48 @@ impl<'a> Parser<'a> {
         &mut self,
         room: u32,
         start: u32,
-        first: Nested<Box<Expr>>,
+        first: Box<Expr>,
         with_calls: bool,
-    ) -> Result<Nested<Box<Expr>>, Fault> {
+    ) -> Read<Box<Expr>> {
         let mut left = first;
         for _ in self.place..self.tokens.len() {
             match self.kind() {
-                Kind::Dot | Kind::LeftBracket | Kind::Template | Kind::TemplateHead => {}
-                Kind::LeftParen if with_calls => {}
+                Kind::Dot => left = self.named_member(start, left)?,
+                Kind::LeftBracket => left = self.computed_member(room, start, left)?,
+                Kind::LeftParen if with_calls => left = self.call_behind(room, start, left)?,
+                Kind::Template | Kind::TemplateHead => return self.no_member(left),
                 _ => break,
             }
-            left = self.member_behind(room, start, left)?;
         }
         Ok(left)
     }
 
-    /// A member or a call.
-    #[inline(never)]
-    #[cycle(parser)]
-    fn member_behind(
-        &mut self,
-        room: u32,
-        start: u32,
-        left: Nested<Box<Expr>>,
-    ) -> Result<Nested<Box<Expr>>, Fault> {
-        match self.kind() {
-            Kind::Dot => self.named_member(start, left),
-            Kind::LeftBracket => self.computed_member(room, start, left),
-            Kind::LeftParen => self.call_behind(room, start, left),
-            _ => self.no_member(left),
-        }
-    }
-
     /// Refuses the template behind a tag.
     #[inline(never)]
-    fn no_member(&self, _tag: Nested<Box<Expr>>) -> Result<Nested<Box<Expr>>, Fault> {
+    fn no_member(&mut self, _tag: Box<Expr>) -> Read<Box<Expr>> {
         Err(self.leave_out(Construct::Template))
     }
 
-    #[inline(never)]
+    #[inline(always)]
     fn member(
-        &self,
+        &mut self,
         start: u32,
-        obj: Nested<Box<Expr>>,
-        prop: Nested<MemberProp>,
-    ) -> Result<Nested<Box<Expr>>, Fault> {
-        let levels = obj.levels.max(prop.levels);
-        let node = MemberExpr {
-            span: self.span_from(start),
-            obj: obj.node,
-            prop: prop.node,
-        };
-        self.nest(Expr::Member(node), levels)
+        obj: Box<Expr>,
+        prop: MemberProp,
+        levels: u32,
+    ) -> Read<Box<Expr>> {
+        let span = self.span_from(start);
+        self.nest(Expr::Member(MemberExpr { span, obj, prop }), levels)
     }
 
     /// `(a, b)`
     #[inline(never)]
     #[cycle(parser)]
-    fn call_behind(
-        &mut self,
-        room: u32,
-        start: u32,
-        callee: Nested<Box<Expr>>,
-    ) -> Result<Nested<Box<Expr>>, Fault> {
+    fn call_behind(&mut self, room: u32, start: u32, callee: Box<Expr>) -> Read<Box<Expr>> {
         let first = self.kept.exprs.len();
-        let args = self.arguments(room);
-        self.call(start, callee, first, args)
+        let levels = self.levels;
+        let args = self.arguments(room)?;
+        self.call(start, callee, first, levels.max(args))
     }
 
     /// The call with the arguments from this one on that were kept.
@@ -85,14 +61,13 @@ impl<'a> Parser<'a> {
     fn call(
         &mut self,
         start: u32,
-        callee: Nested<Box<Expr>>,
+        callee: Box<Expr>,
         first: usize,
-        args: Result<u32, Fault>,
-    ) -> Result<Nested<Box<Expr>>, Fault> {
-        let levels = callee.levels.max(args?);
+        levels: u32,
+    ) -> Read<Box<Expr>> {
         let node = CallExpr {
             span: self.span_from(start),
-            callee: callee.node,
+            callee,
             args: take_from(&mut self.kept.exprs, first)?,
         };
         self.nest(Expr::Call(node), levels)
@@ -100,53 +75,47 @@ impl<'a> Parser<'a> {
 
     /// `.a`
     #[inline(never)]
-    fn named_member(
-        &mut self,
-        start: u32,
-        obj: Nested<Box<Expr>>,
-    ) -> Result<Nested<Box<Expr>>, Fault> {
-        self.expect(Kind::Dot)?;
+    fn named_member(&mut self, start: u32, obj: Box<Expr>) -> Read<Box<Expr>> {
+        self.bump();
         let name = self.word()?;
-        self.member(start, obj, part(MemberProp::Ident(name), 0))
+        let levels = self.levels;
+        self.member(start, obj, MemberProp::Ident(name), levels)
     }
 
     /// `[a]`
     #[inline(never)]
     #[cycle(parser)]
-    fn computed_member(
-        &mut self,
-        room: u32,
-        start: u32,
-        obj: Nested<Box<Expr>>,
-    ) -> Result<Nested<Box<Expr>>, Fault> {
+    fn computed_member(&mut self, room: u32, start: u32, obj: Box<Expr>) -> Read<Box<Expr>> {
         let opening = self.start();
         self.bump();
-        let key = self.expression_inside(room);
-        self.member_of_key(start, obj, opening, key)
+        let levels = self.levels;
+        let key = self.expression_inside(room)?;
+        self.member_of_key(start, obj, levels, opening, key)
     }
 
-    /// The member whose key's brackets begin at an offset and end here.
+    /// The member whose key's brackets begin at an offset and end here. The object has so many levels.
     #[inline(never)]
     fn member_of_key(
         &mut self,
         start: u32,
-        obj: Nested<Box<Expr>>,
+        obj: Box<Expr>,
+        levels: u32,
         opening: u32,
-        key: Result<Nested<Box<Expr>>, Fault>,
-    ) -> Result<Nested<Box<Expr>>, Fault> {
-        let key = key?;
+        key: Box<Expr>,
+    ) -> Read<Box<Expr>> {
         self.expect(Kind::RightBracket)?;
         let prop = ComputedPropName {
             span: self.span_from(opening),
-            expr: key.node,
+            expr: key,
         };
-        self.member(start, obj, part(MemberProp::Computed(prop), key.levels))
+        let levels = levels.max(self.levels);
+        self.member(start, obj, MemberProp::Computed(prop), levels)
     }
 
     /// Keeps the arguments of a call, and returns their levels.
     #[inline(never)]
     #[cycle(parser)]
-    fn arguments(&mut self, room: u32) -> Result<u32, Fault> {
+    fn arguments(&mut self, room: u32) -> Read<u32> {
         self.expect(Kind::LeftParen)?;
         let mut levels = 0;
         for _ in self.place..self.tokens.len() {
@@ -156,9 +125,9 @@ impl<'a> Parser<'a> {
             if self.is_at(Kind::Dots) {
                 return Err(self.leave_out(Construct::CallSpread));
             }
-            let arg = self.assignment(inside(room)?)?;
-            levels = levels.max(arg.levels);
-            self.keep_expr(arg.node)?;
+            let arg = self.assignment_inside(room)?;
+            levels = levels.max(self.levels);
+            self.keep_expr(arg)?;
             if !self.take(Kind::Comma) {
                 break;
             }
@@ -169,27 +138,26 @@ impl<'a> Parser<'a> {
 
     #[inline(never)]
     #[cycle(parser)]
-    pub(crate) fn construction(&mut self, room: u32) -> Result<Nested<Box<Expr>>, Fault> {
+    pub(crate) fn construction(&mut self, room: u32) -> Read<Box<Expr>> {
         let start = self.start();
         if matches!(self.next_kind(), Kind::Dot) {
             return Err(self.leave_out(Construct::Meta));
         }
         self.bump();
-        let inner = inside(room)?;
+        let inner = self.inside(room)?;
         let callee = self.constructor(inner)?;
         let first = self.kept.exprs.len();
-        let args = if self.is_at(Kind::LeftParen) {
-            self.arguments(inner)
-        } else {
-            Ok(0)
-        };
-        self.new_of(start, callee, first, args)
+        let mut levels = self.levels;
+        if self.is_at(Kind::LeftParen) {
+            levels = levels.max(self.arguments(inner)?);
+        }
+        self.new_of(start, callee, first, levels)
     }
 
     /// What stands behind `new`, with its members.
     #[inline(never)]
     #[cycle(parser)]
-    fn constructor(&mut self, room: u32) -> Result<Nested<Box<Expr>>, Fault> {
+    fn constructor(&mut self, room: u32) -> Read<Box<Expr>> {
         let start = self.start();
         let first = self.primary(room)?;
         self.members_behind(room, start, first, false)
@@ -200,14 +168,13 @@ impl<'a> Parser<'a> {
     fn new_of(
         &mut self,
         start: u32,
-        callee: Nested<Box<Expr>>,
+        callee: Box<Expr>,
         first: usize,
-        args: Result<u32, Fault>,
-    ) -> Result<Nested<Box<Expr>>, Fault> {
-        let levels = callee.levels.max(args?);
+        levels: u32,
+    ) -> Read<Box<Expr>> {
         let node = NewExpr {
             span: self.span_from(start),
-            callee: callee.node,
+            callee,
             args: take_from(&mut self.kept.exprs, first)?,
         };
         self.nest(Expr::New(node), levels)

@@ -1,14 +1,15 @@
 //! Imports and exports.
-use crate::cursor::Parser;
+use crate::cursor::{Parser, Read};
+use crate::scopes::Declared;
 use swc_ast::{
-    Decl, ExportDecl, ExportDefaultDecl, ExportDefaultExpr, ExportNamedSpecifier, Ident, IdentName,
+    Decl, ExportDecl, ExportDefaultDecl, ExportDefaultExpr, ExportNamedSpecifier, IdentName,
     ImportDecl, ImportDefaultSpecifier, ImportNamedSpecifier, ImportSpecifier,
-    ImportStarAsSpecifier, ModuleDecl, ModuleItem, NamedExport, VarDeclKind,
+    ImportStarAsSpecifier, ModuleDecl, ModuleItem, NamedExport,
 };
-use text_lexer::{Construct, Fault, Kind};
+use text_lexer::{Construct, Kind};
 
 impl<'a> Parser<'a> {
-    pub(crate) fn module_item(&mut self, room: u32) -> Result<ModuleItem, Fault> {
+    pub(crate) fn module_item(&mut self, room: u32) -> Read<ModuleItem> {
         let is_call = matches!(self.next_kind(), Kind::LeftParen | Kind::Dot);
         match self.kind() {
             Kind::Import if !is_call => Ok(ModuleItem::ModuleDecl(self.import_decl()?)),
@@ -17,7 +18,7 @@ impl<'a> Parser<'a> {
         }
     }
 
-    fn import_decl(&mut self) -> Result<ModuleDecl, Fault> {
+    fn import_decl(&mut self) -> Read<ModuleDecl> {
         let start = self.start();
         self.expect(Kind::Import)?;
         let mut specifiers = Vec::new(self.alloc);
@@ -44,10 +45,10 @@ impl<'a> Parser<'a> {
     }
 
     /// What an import binds, up to `from`.
-    fn import_clause(&mut self, specifiers: &mut Vec<ImportSpecifier>) -> Result<(), Fault> {
+    fn import_clause(&mut self, specifiers: &mut Vec<ImportSpecifier>) -> Read<()> {
         if !matches!(self.kind(), Kind::Star | Kind::LeftBrace) {
             let start = self.start();
-            let local = self.imported_name()?;
+            let local = self.declared(Declared::Lexical)?;
             let span = self.span_from(start);
             let node = ImportDefaultSpecifier { span, local };
             specifiers.push(ImportSpecifier::Default(node))?;
@@ -60,7 +61,7 @@ impl<'a> Parser<'a> {
             if !self.take_name("as") {
                 return Err(self.refuse());
             }
-            let local = self.imported_name()?;
+            let local = self.declared(Declared::Lexical)?;
             let span = self.span_from(start);
             let node = ImportStarAsSpecifier { span, local };
             specifiers.push(ImportSpecifier::Namespace(node))?;
@@ -79,16 +80,8 @@ impl<'a> Parser<'a> {
         self.expect(Kind::RightBrace)
     }
 
-    /// The name that an import binds, which is passed.
-    fn imported_name(&mut self) -> Result<Ident, Fault> {
-        let token = self.token();
-        let mut local = self.bound()?;
-        local.ctxt = self.declare(VarDeclKind::Let, token)?;
-        Ok(local)
-    }
-
     /// `a`, `b as a`
-    fn import_specifier(&mut self) -> Result<ImportSpecifier, Fault> {
+    fn import_specifier(&mut self) -> Read<ImportSpecifier> {
         let start = self.start();
         self.refuse_text_name()?;
         let mut imported: Option<IdentName> = None;
@@ -97,7 +90,7 @@ impl<'a> Parser<'a> {
             imported = Some(self.word()?);
             self.bump();
         }
-        let local = self.imported_name()?;
+        let local = self.declared(Declared::Lexical)?;
         let span = self.span_from(start);
         Ok(ImportSpecifier::Named(ImportNamedSpecifier {
             span,
@@ -106,14 +99,14 @@ impl<'a> Parser<'a> {
         }))
     }
 
-    fn refuse_text_name(&self) -> Result<(), Fault> {
+    fn refuse_text_name(&mut self) -> Read<()> {
         if self.is_at(Kind::Text) {
             return Err(self.leave_out(Construct::TextName));
         }
         Ok(())
     }
 
-    fn export_item(&mut self, room: u32) -> Result<ModuleDecl, Fault> {
+    fn export_item(&mut self, room: u32) -> Read<ModuleDecl> {
         let start = self.start();
         if self.is_at_re_export() {
             return Err(self.leave_out(Construct::ReExport));
@@ -151,7 +144,7 @@ impl<'a> Parser<'a> {
         }
     }
 
-    fn named_export(&mut self, start: u32) -> Result<ModuleDecl, Fault> {
+    fn named_export(&mut self, start: u32) -> Read<ModuleDecl> {
         self.expect(Kind::LeftBrace)?;
         let mut specifiers = Vec::new(self.alloc);
         for _ in self.place..self.tokens.len() {
@@ -170,7 +163,7 @@ impl<'a> Parser<'a> {
     }
 
     /// `a`, `b as c`
-    fn export_specifier(&mut self) -> Result<ExportNamedSpecifier, Fault> {
+    fn export_specifier(&mut self) -> Read<ExportNamedSpecifier> {
         self.refuse_text_name()?;
         let token = self.token();
         let orig = self.ident()?;
@@ -192,7 +185,7 @@ impl<'a> Parser<'a> {
     }
 
     /// What `default` exports, which comes next.
-    fn default_export(&mut self, room: u32, start: u32) -> Result<ModuleDecl, Fault> {
+    fn default_export(&mut self, room: u32, start: u32) -> Read<ModuleDecl> {
         let name = self.token();
         self.export(name)?;
         self.bump();
@@ -201,9 +194,8 @@ impl<'a> Parser<'a> {
             let span = self.span_from(start);
             return Ok(ModuleDecl::ExportDefaultDecl(ExportDefaultDecl { span, decl }));
         }
-        let found = self.assignment(room)?;
+        let expr = self.assignment(room)?;
         self.semicolon()?;
-        let expr = found.node;
         let span = self.span_from(start);
         Ok(ModuleDecl::ExportDefaultExpr(ExportDefaultExpr { span, expr }))
     }

@@ -1,55 +1,63 @@
 //! Names: where they are read, bound and written.
-use crate::cursor::{Nested, Parser};
-use swc_ast::{AssignTarget, Atom, Expr, Ident, IdentName, SyntaxContext, VarDeclKind};
+use crate::cursor::{Parser, Read, Refused};
+use crate::scopes::Declared;
+use swc_ast::{AssignTarget, Atom, Expr, Ident, IdentName};
 use text_lexer::{Construct, Fault, Kind, Token, is_word_part};
 
 /// Whether no binding and no write may have this name in strict code.
 fn is_restricted(name: &str) -> bool {
-    name == "eval" || name == "arguments"
-}
-
-/// What an operand that begins at an offset may be written to as.
-#[inline(never)]
-pub(crate) fn target(operand: Nested<Box<Expr>>, at: u32) -> Result<AssignTarget, Fault> {
-    match Box::into_inner(operand.node).into_target() {
-        Ok(AssignTarget::Ident(name)) => {
-            if is_restricted(name.sym.as_str()) {
-                return Err(Fault::Syntax {
-                    at: name.span.lo.saturating_sub(1),
-                });
-            }
-            Ok(AssignTarget::Ident(name))
-        }
-        Ok(target) => Ok(target),
-        Err(_) => Err(Fault::Syntax { at }),
-    }
-}
-
-pub(crate) fn redeclared(at: u32) -> Fault {
-    Fault::OutOfCore {
-        at,
-        what: Construct::Redeclared,
-    }
+    matches!(name.len(), 4 | 9) && (name == "eval" || name == "arguments")
 }
 
 impl<'a> Parser<'a> {
-    /// A name, which is passed.
+    /// What an operand that begins at an offset may be written to as.
     #[inline(never)]
-    pub(crate) fn ident(&mut self) -> Result<Ident, Fault> {
-        let token = self.token();
+    pub(crate) fn target(&mut self, operand: Box<Expr>, at: u32) -> Read<AssignTarget> {
+        match Box::into_inner(operand).into_target() {
+            Ok(AssignTarget::Ident(name)) => {
+                if is_restricted(name.sym.as_str()) {
+                    return Err(self.refuse_at(name.span.lo.saturating_sub(1)));
+                }
+                Ok(AssignTarget::Ident(name))
+            }
+            Ok(target) => Ok(target),
+            Err(_) => Err(self.refuse_at(at)),
+        }
+    }
+
+    /// Refuses the second declaration of a name, which begins at an offset.
+    pub(crate) fn redeclared(&mut self, at: u32) -> Refused {
+        self.refuse_for(Fault::OutOfCore {
+            at,
+            what: Construct::Redeclared,
+        })
+    }
+
+    /// A name, which is passed.
+    #[inline(always)]
+    pub(crate) fn ident(&mut self) -> Read<Ident> {
+        let text = self.text_of(self.token());
+        self.ident_of(text)
+    }
+
+    /// The name here, which is passed and whose text this is.
+    #[inline(always)]
+    fn ident_of(&mut self, text: &'a str) -> Read<Ident> {
+        let start = self.start();
         if !self.take(Kind::Name) {
             return Err(self.no_name());
         }
-        let text = self.text_of(token);
         let ctxt = self.scopes.mention(text)?;
         Ok(Ident {
-            span: self.span_from(token.start),
+            span: self.span_from(start),
             sym: Atom::from_str(self.alloc, text)?,
             ctxt,
         })
     }
 
-    fn no_name(&self) -> Fault {
+    #[cold]
+    #[inline(never)]
+    fn no_name(&mut self) -> Refused {
         if self.is_at(Kind::WideName) {
             self.leave_out(Construct::Name)
         } else {
@@ -57,28 +65,34 @@ impl<'a> Parser<'a> {
         }
     }
 
-    /// A name that is bound, which is passed.
+    /// A name that is declared here, which is passed.
     #[inline(never)]
-    pub(crate) fn bound(&mut self) -> Result<Ident, Fault> {
+    pub(crate) fn declared(&mut self, what: Declared) -> Read<Ident> {
         let token = self.token();
-        if is_restricted(self.text_of(token)) {
+        let text = self.text_of(token);
+        if is_restricted(text) {
             return Err(self.refuse());
         }
-        self.ident()
+        let mut name = self.ident_of(text)?;
+        if !self.scopes.declare(what)? {
+            return Err(self.redeclared(token.start));
+        }
+        name.ctxt = self.scopes.declared_context();
+        Ok(name)
     }
 
-    /// A name that is bound where destructuring could stand too, which is passed.
-    #[inline(never)]
-    pub(crate) fn bound_or_pattern(&mut self) -> Result<Ident, Fault> {
+    /// Refuses destructuring where a name is declared.
+    #[inline(always)]
+    pub(crate) fn refuse_destructuring(&mut self) -> Read<()> {
         if matches!(self.kind(), Kind::LeftBrace | Kind::LeftBracket) {
             return Err(self.leave_out(Construct::Pattern));
         }
-        self.bound()
+        Ok(())
     }
 
     /// A name or a reserved word, which is passed.
     #[inline(never)]
-    pub(crate) fn word(&mut self) -> Result<IdentName, Fault> {
+    pub(crate) fn word(&mut self) -> Read<IdentName> {
         let token = self.token();
         if !self.is_word(token) {
             return Err(self.no_name());
@@ -91,20 +105,24 @@ impl<'a> Parser<'a> {
     }
 
     /// Whether a token is a name or a reserved word.
+    #[inline(always)]
     pub(crate) fn is_word(&self, token: Token) -> bool {
-        if token.kind as u8 == Kind::WideName as u8 {
-            return false;
-        }
-        match self.text_of(token).as_bytes().first() {
-            Some(byte) => is_word_part(*byte) && !byte.is_ascii_digit(),
-            None => false,
+        match token.kind {
+            Kind::Name => true,
+            Kind::WideName => false,
+            _ => match self.text_of(token).as_bytes().first() {
+                Some(byte) => is_word_part(*byte) && !byte.is_ascii_digit(),
+                None => false,
+            },
         }
     }
 
     /// Whether a token is this name, as `of` or `async`.
     #[inline(always)]
     pub(crate) fn is_name(&self, token: Token, name: &str) -> bool {
-        token.kind as u8 == Kind::Name as u8 && self.text_of(token) == name
+        matches!(token.kind, Kind::Name)
+            && token.end.saturating_sub(token.start) as usize == name.len()
+            && self.text_of(token) == name
     }
 
     /// Passes this name if it comes next.
@@ -116,42 +134,32 @@ impl<'a> Parser<'a> {
         found
     }
 
-    /// Declares a name whose token was passed last, and says which context it has.
-    #[inline(never)]
-    pub(crate) fn declare(
-        &mut self,
-        kind: VarDeclKind,
-        token: Token,
-    ) -> Result<SyntaxContext, Fault> {
-        let may = match kind {
-            VarDeclKind::Var => self.scopes.declare_var()?,
-            VarDeclKind::Let | VarDeclKind::Const => self.scopes.declare()?,
-        };
-        if may {
-            Ok(self.scopes.declared_context())
-        } else {
-            Err(redeclared(token.start))
-        }
-    }
-
     /// Exports the name that a token spells.
-    pub(crate) fn export(&mut self, token: Token) -> Result<(), Fault> {
+    pub(crate) fn export(&mut self, token: Token) -> Read<()> {
         let name = self.text_of(token);
         if self.exports.add(name)? {
             Ok(())
         } else {
-            Err(Fault::Syntax { at: token.start })
+            Err(self.refuse_at(token.start))
         }
     }
 
     /// Refuses the first specifier that exports what the module does not declare.
-    pub(crate) fn refuse_undeclared_exports(&self) -> Result<(), Fault> {
+    pub(crate) fn refuse_undeclared_exports(&mut self) -> Read<()> {
+        match self.undeclared_export() {
+            Some(at) => Err(self.refuse_at(at)),
+            None => Ok(()),
+        }
+    }
+
+    /// The offset of the first specifier that exports what the module does not declare.
+    fn undeclared_export(&self) -> Option<u32> {
         for local in &self.exports.locals {
             let (name, at) = *local;
             if !self.scopes.is_declared_first(name) {
-                return Err(Fault::Syntax { at });
+                return Some(at);
             }
         }
-        Ok(())
+        None
     }
 }

@@ -57,6 +57,23 @@ pub(crate) fn assign_op(kind: Kind) -> Option<AssignOp> {
     }
 }
 
+/// Whether a token is an operator in front of an operand.
+#[inline(always)]
+pub(crate) fn is_prefix(kind: Kind) -> bool {
+    matches!(
+        kind,
+        Kind::Minus
+            | Kind::Plus
+            | Kind::Not
+            | Kind::Tilde
+            | Kind::PlusPlus
+            | Kind::MinusMinus
+            | Kind::TypeOf
+            | Kind::Void
+            | Kind::Delete
+    )
+}
+
 /// The operator in front of an operand that a token is.
 pub(crate) fn unary_op(kind: Kind) -> Option<UnaryOp> {
     match kind {
@@ -71,6 +88,8 @@ pub(crate) fn unary_op(kind: Kind) -> Option<UnaryOp> {
     }
 }
 
+/// The operator that a token is before or behind what it updates.
+#[inline(always)]
 pub(crate) fn update_op(kind: Kind) -> Option<UpdateOp> {
     match kind {
         Kind::PlusPlus => Some(UpdateOp::PlusPlus),

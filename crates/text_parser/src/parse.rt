@@ -2,10 +2,10 @@
 ghost use Rattle.std.specs.Prelude.{◌<◌, ◌^◌, length};
 
 use crate::contexts::Contexts;
-use crate::cursor::{Parser, ROOM};
-use crate::scopes::{ScopeKind, Scopes};
+use crate::cursor::{Parser, ROOM, Read, Refused};
+use crate::scopes::{Mention, ScopeKind};
 use std::alloc::Global;
-use swc_ast::{Expr, Mark, Module, ModuleItem, Script, Span, Stmt, SyntaxContext};
+use swc_ast::{Expr, Mark, Module, ModuleItem, Script, Span, Stmt};
 use text_lexer::{Fault, Kind, tokenize};
 
 /// A module (ECMA-262, 16.2), by its text of less than 2^31 bytes. A span is a node's first and past-last byte plus 1.
@@ -18,26 +18,13 @@ pub fn parse_module(alloc: Global, text: &str, mark: Mark) -> Result<Module, Fau
 {
     let tokens = tokenize(alloc, text)?;
     let mut parser = Parser::new(alloc, text, tokens.as_slice(), mark)?;
-    parser.scopes.open(ScopeKind::Function)?;
-    let mut body = Vec::new(alloc);
-    let mut starts = Vec::new(alloc);
-    for _ in 0..tokens.len() {
-        if parser.is_at(Kind::End) {
-            break;
-        }
-        starts.push(parser.scopes.guesses().len())?;
-        body.push(parser.module_item(ROOM)?)?;
+    match module_items(&mut parser) {
+        Ok(body) => Ok(Module {
+            span: span_of(text),
+            body,
+        }),
+        Err(Refused) => Err(parser.fault),
     }
-    parser.expect(Kind::End)?;
-    parser.refuse_undeclared_exports()?;
-    parser.scopes.close()?;
-    let contexts = parser.scopes.contexts()?;
-    let guesses = parser.scopes.guesses();
-    resolve_items(contexts.as_slice(), guesses, starts.as_slice(), &mut body);
-    Ok(Module {
-        span: span_of(text),
-        body,
-    })
 }
 
 /// A script (ECMA-262, 16.1) of strict code, by its text. Spans and contexts are those of `parse_module`; the script is the first
@@ -47,22 +34,13 @@ pub fn parse_script(alloc: Global, text: &str, mark: Mark) -> Result<Script, Fau
 {
     let tokens = tokenize(alloc, text)?;
     let mut parser = Parser::new(alloc, text, tokens.as_slice(), mark)?;
-    parser.scopes.open(ScopeKind::Function)?;
-    let mut body = Vec::new(alloc);
-    for _ in 0..tokens.len() {
-        if parser.is_at(Kind::End) {
-            break;
-        }
-        body.push(parser.item_stmt(ROOM)?)?;
+    match script_statements(&mut parser) {
+        Ok(body) => Ok(Script {
+            span: span_of(text),
+            body,
+        }),
+        Err(Refused) => Err(parser.fault),
     }
-    parser.expect(Kind::End)?;
-    parser.scopes.close()?;
-    let contexts = parser.scopes.contexts()?;
-    resolve_statements(contexts.as_slice(), &mut body);
-    Ok(Script {
-        span: span_of(text),
-        body,
-    })
 }
 
 /// An expression (ECMA-262, 13.16) of module code, by its text. Spans and contexts are those of `parse_module`, but for the scope
@@ -88,33 +66,80 @@ fn parse_spanned(alloc: Global, text: &str, mark: Mark, has_spans: bool) -> Resu
     let tokens = tokenize(alloc, text)?;
     let mut parser = Parser::new(alloc, text, tokens.as_slice(), mark)?;
     parser.has_spans = has_spans;
-    let mut read = Box::into_inner(parser.expression(ROOM)?.node);
+    match whole_expression(&mut parser) {
+        Ok(read) => Ok(Box::into_inner(read)),
+        Err(Refused) => Err(parser.fault),
+    }
+}
+
+/// The items of a module, up to the end of the text.
+fn module_items<'a>(parser: &mut Parser<'a>) -> Read<Vec<ModuleItem>> {
+    parser.scopes.open(ScopeKind::Function)?;
+    let mut body = Vec::new(parser.alloc);
+    let mut starts = Vec::new(parser.alloc);
+    for _ in 0..parser.tokens.len() {
+        if parser.is_at(Kind::End) {
+            break;
+        }
+        starts.push(parser.scopes.mentions().len())?;
+        body.push(parser.module_item(ROOM)?)?;
+    }
     parser.expect(Kind::End)?;
-    let contexts = parser.scopes.contexts()?;
-    Contexts::new(contexts.as_slice()).expr(&mut read);
+    parser.refuse_undeclared_exports()?;
+    parser.scopes.close();
+    resolve_items(parser.scopes.mentions(), starts.as_slice(), &mut body);
+    Ok(body)
+}
+
+/// The statements of a script, up to the end of the text.
+fn script_statements<'a>(parser: &mut Parser<'a>) -> Read<Vec<Stmt>> {
+    parser.scopes.open(ScopeKind::Function)?;
+    let mut body = Vec::new(parser.alloc);
+    for _ in 0..parser.tokens.len() {
+        if parser.is_at(Kind::End) {
+            break;
+        }
+        body.push(parser.item_stmt(ROOM)?)?;
+    }
+    parser.expect(Kind::End)?;
+    parser.scopes.close();
+    resolve_statements(parser.scopes.mentions(), &mut body);
+    Ok(body)
+}
+
+/// An expression, up to the end of the text.
+fn whole_expression<'a>(parser: &mut Parser<'a>) -> Read<Box<Expr>> {
+    let mut read = parser.expression(ROOM)?;
+    parser.expect(Kind::End)?;
+    Contexts::new(parser.scopes.mentions()).expr(&mut read);
     Ok(read)
 }
 
-/// Gives the names of items their contexts. An item whose names have them already is passed by: those of the i-th item begin at
-/// the i-th start.
-fn resolve_items(
-    contexts: &[SyntaxContext],
-    guesses: &[SyntaxContext],
-    starts: &[usize],
-    items: &mut Vec<ModuleItem>,
-) {
+/// Gives the names of items the contexts of their mentions. An item whose names have them already is passed by: those of the i-th
+/// item begin at the i-th start.
+fn resolve_items(mentions: &[Mention], starts: &[usize], items: &mut Vec<ModuleItem>) {
     for i in 0..items.len() {
         let from = starts.get(i).copied().unwrap_or(0);
-        let to = starts.get(i + 1).copied().unwrap_or(contexts.len());
-        let found = contexts.get(from..to).unwrap_or(&[]);
-        if guesses.get(from..to) != Some(found) {
+        let to = starts.get(i + 1).copied().unwrap_or(mentions.len());
+        let found = mentions.get(from..to).unwrap_or(&[]);
+        if has_late(found) {
             Contexts::new(found).module_item(&mut items[i]);
         }
     }
 }
 
-fn resolve_statements(contexts: &[SyntaxContext], stmts: &mut Vec<Stmt>) {
-    let mut giver = Contexts::new(contexts);
+/// Whether one of the mentions is bound by what was declared behind it.
+fn has_late(mentions: &[Mention]) -> bool {
+    for mention in mentions {
+        if mention.is_late {
+            return true;
+        }
+    }
+    false
+}
+
+fn resolve_statements(mentions: &[Mention], stmts: &mut Vec<Stmt>) {
+    let mut giver = Contexts::new(mentions);
     for i in 0..stmts.len() {
         giver.stmt(&mut stmts[i]);
     }

@@ -1,42 +1,32 @@
 //! Names, literals, templates, arrays and parentheses.
-use crate::cursor::{Nested, Parser, inside};
+use crate::cursor::{Parser, Read};
+use crate::expression::ends_operand;
 use crate::kept::take_from;
 use swc_ast::{
     ArrayLit, Bool, Expr, ExprOrSpread, Lit, Null, Number, Str, ThisExpr, Tpl, TplElement,
 };
-use text_lexer::{Construct, Fault, Kind, Token};
+use text_lexer::{Construct, Kind, Token};
 
 impl<'a> Parser<'a> {
     #[inline(always)]
     #[cycle(parser)]
-    pub(crate) fn primary(&mut self, room: u32) -> Result<Nested<Box<Expr>>, Fault> {
+    pub(crate) fn primary(&mut self, room: u32) -> Read<Box<Expr>> {
         match self.kind() {
-            Kind::Name => self.name(),
             Kind::LeftParen => self.parenthesized(room),
             Kind::LeftBracket => self.array(room),
             Kind::LeftBrace => self.object(room),
             Kind::New => self.construction(room),
             Kind::Function => self.function_expr(room),
             Kind::Template | Kind::TemplateHead => self.template(room),
-            Kind::Number | Kind::Text | Kind::True | Kind::False | Kind::Null | Kind::This => {
-                self.literal()
-            }
-            _ => self.no_operand(),
+            Kind::True | Kind::False | Kind::Null | Kind::This => self.word_literal(),
+            _ if self.is_at_async() => Err(self.leave_out(Construct::Async)),
+            _ => self.leaf(),
         }
-    }
-
-    #[inline(never)]
-    fn name(&mut self) -> Result<Nested<Box<Expr>>, Fault> {
-        if self.is_at_async() {
-            return Err(self.leave_out(Construct::Async));
-        }
-        let name = self.ident()?;
-        self.nest(Expr::Ident(name), 0)
     }
 
     /// Refuses what begins no operand.
     #[inline(never)]
-    fn no_operand(&self) -> Result<Nested<Box<Expr>>, Fault> {
+    fn no_operand(&mut self) -> Read<Box<Expr>> {
         Err(match self.kind() {
             Kind::WideName => self.leave_out(Construct::Name),
             Kind::Class => self.leave_out(Construct::Class),
@@ -53,32 +43,69 @@ impl<'a> Parser<'a> {
         })
     }
 
+    /// Whether a name, a number or a text stands here by itself, before what ends each operand.
+    #[inline(always)]
+    pub(crate) fn is_at_leaf(&self) -> bool {
+        matches!(self.kind(), Kind::Name | Kind::Number | Kind::Text)
+            && ends_operand(self.next_kind())
+    }
+
+    /// The name, the number or the text here.
+    #[inline(always)]
+    pub(crate) fn leaf(&mut self) -> Read<Box<Expr>> {
+        match self.kind() {
+            Kind::Name => self.name(),
+            Kind::Number => self.number_literal(),
+            Kind::Text => self.quoted_literal(),
+            _ => self.no_operand(),
+        }
+    }
+
     #[inline(never)]
-    fn literal(&mut self) -> Result<Nested<Box<Expr>>, Fault> {
+    fn name(&mut self) -> Read<Box<Expr>> {
+        let name = self.ident()?;
+        self.nest(Expr::Ident(name), 0)
+    }
+
+    #[inline(never)]
+    fn number_literal(&mut self) -> Read<Box<Expr>> {
+        let number = self.number()?;
+        self.nest(Expr::Lit(Lit::Num(number)), 0)
+    }
+
+    #[inline(never)]
+    fn quoted_literal(&mut self) -> Read<Box<Expr>> {
+        let text = self.text_literal()?;
+        self.nest(Expr::Lit(Lit::Str(text)), 0)
+    }
+
+    /// `this`, `null`, `true` or `false`.
+    #[inline(never)]
+    fn word_literal(&mut self) -> Read<Box<Expr>> {
         let token = self.token();
+        self.bump();
+        let span = self.span_from(token.start);
         let node = match token.kind {
-            Kind::Number => Expr::Lit(Lit::Num(self.number()?)),
-            Kind::Text => Expr::Lit(Lit::Str(self.text_literal()?)),
+            Kind::This => Expr::This(ThisExpr { span }),
+            Kind::Null => Expr::Lit(Lit::Null(Null { span })),
             kind => {
-                self.bump();
-                let span = self.span_from(token.start);
-                match kind {
-                    Kind::This => Expr::This(ThisExpr { span }),
-                    Kind::Null => Expr::Lit(Lit::Null(Null { span })),
-                    _ => {
-                        let value = kind as u8 == Kind::True as u8;
-                        Expr::Lit(Lit::Bool(Bool { span, value }))
-                    }
-                }
+                let value = matches!(kind, Kind::True);
+                Expr::Lit(Lit::Bool(Bool { span, value }))
             }
         };
         self.nest(node, 0)
     }
 
     /// A number, which is passed.
-    pub(crate) fn number(&mut self) -> Result<Number, Fault> {
+    #[inline(always)]
+    pub(crate) fn number(&mut self) -> Read<Number> {
         let token = self.token();
-        let value = text_lexer::number(self.text_of(token).as_bytes(), token.start)?;
+        let range = token.start as usize..token.end as usize;
+        let digits = self.text.as_bytes().get(range).unwrap_or(b"");
+        let value = match text_lexer::number(digits, token.start) {
+            Ok(value) => value,
+            Err(fault) => return Err(self.refuse_for(fault)),
+        };
         self.bump();
         Ok(Number {
             span: self.span_from(token.start),
@@ -87,7 +114,8 @@ impl<'a> Parser<'a> {
     }
 
     /// A text, which is passed.
-    pub(crate) fn text_literal(&mut self) -> Result<Str, Fault> {
+    #[inline(always)]
+    pub(crate) fn text_literal(&mut self) -> Read<Str> {
         let token = self.token();
         let value = self.cooked(token, 1)?;
         self.bump();
@@ -98,21 +126,24 @@ impl<'a> Parser<'a> {
     }
 
     /// The text of a token without the sign before it and so many behind it, its escapes resolved.
-    fn cooked(&self, token: Token, behind: u32) -> Result<String, Fault> {
+    #[inline(never)]
+    fn cooked(&mut self, token: Token, behind: u32) -> Read<String> {
         let from = token.start.saturating_add(1) as usize;
         let to = token.end.saturating_sub(behind) as usize;
         let raw = self.text.get(from..to).unwrap_or("");
         let bytes = raw.as_bytes();
-        if bytes.contains(&b'\\') || bytes.contains(&b'\r') {
-            text_lexer::text(self.alloc, raw, token.start)
-        } else {
-            Ok(String::from_str(self.alloc, raw)?)
+        if !bytes.contains(&b'\\') && !bytes.contains(&b'\r') {
+            return Ok(String::from_str(self.alloc, raw)?);
+        }
+        match text_lexer::text(self.alloc, raw, token.start) {
+            Ok(value) => Ok(value),
+            Err(fault) => Err(self.refuse_for(fault)),
         }
     }
 
     #[inline(never)]
     #[cycle(parser)]
-    fn template(&mut self, room: u32) -> Result<Nested<Box<Expr>>, Fault> {
+    fn template(&mut self, room: u32) -> Read<Box<Expr>> {
         let start = self.start();
         let first_quasi = self.kept.quasis.len();
         let first = self.kept.exprs.len();
@@ -121,9 +152,9 @@ impl<'a> Parser<'a> {
             if self.quasi()? {
                 break;
             }
-            let found = self.expression(inside(room)?)?;
-            levels = levels.max(found.levels);
-            self.keep_expr(found.node)?;
+            let found = self.expression_inside(room)?;
+            levels = levels.max(self.levels);
+            self.keep_expr(found)?;
             if !matches!(self.kind(), Kind::TemplateMiddle | Kind::TemplateTail) {
                 return Err(self.refuse());
             }
@@ -139,7 +170,7 @@ impl<'a> Parser<'a> {
         first_quasi: usize,
         first: usize,
         levels: u32,
-    ) -> Result<Nested<Box<Expr>>, Fault> {
+    ) -> Read<Box<Expr>> {
         let node = Tpl {
             span: self.span_from(start),
             quasis: take_from(&mut self.kept.quasis, first_quasi)?,
@@ -150,7 +181,7 @@ impl<'a> Parser<'a> {
 
     /// Keeps a template's text, which is passed, and says whether it is the last.
     #[inline(never)]
-    fn quasi(&mut self) -> Result<bool, Fault> {
+    fn quasi(&mut self) -> Read<bool> {
         let token = self.token();
         let tail = matches!(token.kind, Kind::Template | Kind::TemplateTail);
         let behind: u32 = if tail { 1 } else { 2 };
@@ -165,10 +196,10 @@ impl<'a> Parser<'a> {
     /// Parentheses. A run of them takes no deeper recursion than one.
     #[inline(never)]
     #[cycle(parser)]
-    fn parenthesized(&mut self, room: u32) -> Result<Nested<Box<Expr>>, Fault> {
+    fn parenthesized(&mut self, room: u32) -> Read<Box<Expr>> {
         let first = self.place;
         self.pass_opening()?;
-        let inner = inside(room)?;
+        let inner = self.inside(room)?;
         let second = self.place;
         let found = self.assignment(inner)?;
         if second.saturating_sub(first) > 1 {
@@ -179,7 +210,7 @@ impl<'a> Parser<'a> {
 
     /// Passes a run of opening parentheses.
     #[inline(never)]
-    fn pass_opening(&mut self) -> Result<(), Fault> {
+    fn pass_opening(&mut self) -> Read<()> {
         self.bump();
         for _ in self.place..self.tokens.len() {
             if !self.is_at(Kind::LeftParen) || self.is_at_arrow() {
@@ -194,23 +225,17 @@ impl<'a> Parser<'a> {
     }
 
     /// An expression in parentheses that end here.
-    #[inline(never)]
-    fn wrapped(&mut self, read: Nested<Box<Expr>>) -> Result<Nested<Box<Expr>>, Fault> {
-        self.expect(Kind::RightParen)?;
-        let mut found = read;
-        found.wrapped = true;
+    #[inline(always)]
+    fn wrapped(&mut self, read: Box<Expr>) -> Read<Box<Expr>> {
+        let found = self.closed(read, Kind::RightParen)?;
+        self.is_wrapped = true;
         Ok(found)
     }
 
     /// What goes on behind an assignment that begins at a place, up to where the parentheses round it end.
     #[inline(never)]
     #[cycle(parser)]
-    fn behind_innermost(
-        &mut self,
-        room: u32,
-        place: usize,
-        found: Nested<Box<Expr>>,
-    ) -> Result<Nested<Box<Expr>>, Fault> {
+    fn behind_innermost(&mut self, room: u32, place: usize, found: Box<Expr>) -> Read<Box<Expr>> {
         let start = self.token_at(place).start;
         let whole = self.expression_behind(room, start, found)?;
         self.wrapped(whole)
@@ -224,8 +249,8 @@ impl<'a> Parser<'a> {
         room: u32,
         first: usize,
         second: usize,
-        innermost: Nested<Box<Expr>>,
-    ) -> Result<Nested<Box<Expr>>, Fault> {
+        innermost: Box<Expr>,
+    ) -> Read<Box<Expr>> {
         let mut found = self.behind_innermost(room, second, innermost)?;
         for i in 1..second.saturating_sub(first) {
             let start = self.token_at(second.saturating_sub(i)).start;
@@ -237,12 +262,7 @@ impl<'a> Parser<'a> {
     /// What goes on behind parentheses, up to where those round them end.
     #[inline(never)]
     #[cycle(parser)]
-    fn behind_parentheses(
-        &mut self,
-        room: u32,
-        start: u32,
-        found: Nested<Box<Expr>>,
-    ) -> Result<Nested<Box<Expr>>, Fault> {
+    fn behind_parentheses(&mut self, room: u32, start: u32, found: Box<Expr>) -> Read<Box<Expr>> {
         let operand = self.operand_behind(room, start, found)?;
         let left = self.binary_behind(room, start, operand, 0)?;
         self.behind_operators(room, start, left)
@@ -250,12 +270,7 @@ impl<'a> Parser<'a> {
 
     #[inline(never)]
     #[cycle(parser)]
-    fn behind_operators(
-        &mut self,
-        room: u32,
-        start: u32,
-        left: Nested<Box<Expr>>,
-    ) -> Result<Nested<Box<Expr>>, Fault> {
+    fn behind_operators(&mut self, room: u32, start: u32, left: Box<Expr>) -> Read<Box<Expr>> {
         let value = if self.is_at(Kind::Question) {
             self.choice_behind(room, start, left)?
         } else {
@@ -267,7 +282,7 @@ impl<'a> Parser<'a> {
 
     #[inline(never)]
     #[cycle(parser)]
-    fn array(&mut self, room: u32) -> Result<Nested<Box<Expr>>, Fault> {
+    fn array(&mut self, room: u32) -> Read<Box<Expr>> {
         let start = self.start();
         self.bump();
         let first = self.kept.elems.len();
@@ -291,12 +306,7 @@ impl<'a> Parser<'a> {
 
     /// The array of the items from this one on that were kept, which ends here.
     #[inline(never)]
-    fn array_of(
-        &mut self,
-        start: u32,
-        first: usize,
-        levels: u32,
-    ) -> Result<Nested<Box<Expr>>, Fault> {
+    fn array_of(&mut self, start: u32, first: usize, levels: u32) -> Read<Box<Expr>> {
         self.expect(Kind::RightBracket)?;
         let elems = take_from(&mut self.kept.elems, first)?;
         let span = self.span_from(start);
@@ -306,21 +316,20 @@ impl<'a> Parser<'a> {
     /// Keeps an item of an array, which may be spread, and returns its levels.
     #[inline(never)]
     #[cycle(parser)]
-    fn item(&mut self, room: u32) -> Result<u32, Fault> {
+    fn item(&mut self, room: u32) -> Read<u32> {
         let start = self.start();
         let mut spread = None;
         if self.take(Kind::Dots) {
             spread = Some(self.span_from(start));
         }
-        let item = self.assignment(inside(room)?)?;
-        let expr = item.node;
+        let expr = self.assignment_inside(room)?;
         self.keep_item(Some(ExprOrSpread { spread, expr }))?;
-        Ok(item.levels)
+        Ok(self.levels)
     }
 
     /// Keeps an item of an array, or a hole.
     #[inline(never)]
-    fn keep_item(&mut self, item: Option<ExprOrSpread>) -> Result<(), Fault> {
+    fn keep_item(&mut self, item: Option<ExprOrSpread>) -> Read<()> {
         self.kept.elems.push(item)?;
         Ok(())
     }

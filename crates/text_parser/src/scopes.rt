@@ -1,16 +1,21 @@
 //! The scopes of a text: what each declares, and where each name is mentioned.
-use std::alloc::{AllocError, AllocFailed, Global};
+use std::alloc::{AllocError, Global};
 use std::collections::HashMap;
 use std::collections::hash_map::Entry;
 use swc_ast::{Mark, SyntaxContext};
 
-/// What happens to scopes, in the order of the text.
+/// A name that is read, written or declared.
 #[derive(Clone, Copy)]
-enum Event {
-    Open(u32),
-    Close,
-    Mention(u32),
+pub(crate) struct Mention {
+    pub(crate) context: SyntaxContext,
+    /// whether what binds it was declared behind it
+    pub(crate) is_late: bool,
+    /// the mention before that an open scope may still bind, of the same name
+    before: Link,
 }
+
+/// An item of a list, by how many items the list had with it, or 0.
+type Link = u32;
 
 /// What a scope is.
 #[derive(Clone, Copy)]
@@ -25,6 +30,17 @@ pub(crate) enum ScopeKind {
     CatchBody,
 }
 
+/// What a name is declared as.
+#[derive(Clone, Copy)]
+pub(crate) enum Declared {
+    /// by `var`, in the function
+    Var,
+    /// a parameter
+    Param,
+    /// what else is declared: in the innermost scope
+    Lexical,
+}
+
 /// What binds a name.
 #[derive(Clone, Copy)]
 struct Binding {
@@ -35,14 +51,35 @@ struct Binding {
     opened: u32,
 }
 
-#[derive(Drop)]
+/// What is known of a name here.
+#[derive(Clone, Copy)]
+struct Known {
+    binding: Option<Binding>,
+    context: SyntaxContext,
+    /// its last mention that an open scope may still bind
+    last: Link,
+}
+
+/// A name that a scope binds.
+#[derive(Clone, Copy)]
+struct Bound {
+    symbol: u32,
+    /// what was known of it before
+    outer: Known,
+    /// the name that the same scope bound before
+    before: Link,
+}
+
+#[derive(Clone, Copy)]
 struct Scope {
     /// the scope that binds what is declared here by `var`
     function: u32,
     /// the scope round this one that is one with it
     beside: Option<u32>,
-    /// the numbers of the names that it binds, with what bound them before
-    names: Vec<(u32, Option<Binding>)>,
+    /// the name that it bound last
+    names: Link,
+    /// the last mention before it was opened
+    opened_behind: Link,
 }
 
 /// The greatest number of a mark.
@@ -64,6 +101,7 @@ fn mark_of(mark: Mark, scope: u32) -> Mark {
 const RECENT: usize = 1024;
 
 /// Where a name is kept among those that were met lately.
+#[inline(always)]
 fn place_of(name: &str) -> usize {
     let sum = match name.as_bytes() {
         [first, .., before, last] => {
@@ -76,41 +114,55 @@ fn place_of(name: &str) -> usize {
     sum % RECENT
 }
 
+/// The number of items of a list.
+#[inline(always)]
+fn count<T>(list: &Vec<T>) -> u32 {
+    (list.len() % 4_294_967_296) as u32
+}
+
+/// The place of what a link leads to.
+#[inline(always)]
+fn place_behind(link: Link) -> usize {
+    (link as usize).wrapping_sub(1)
+}
+
 /// The scopes of a text that were opened so far.
 #[derive(Drop)]
 pub(crate) struct Scopes<'a> {
-    alloc: Global,
     symbols: HashMap<&'a str, u32>,
     /// names that were met lately, with their numbers
     recent: Vec<Option<(&'a str, u32)>>,
-    /// what binds each name here
-    bindings: Vec<Option<Binding>>,
+    /// what is known of each name here
+    known: Vec<Known>,
     scopes: Vec<Scope>,
     /// the scopes that are open
     open: Vec<u32>,
-    events: Vec<Event>,
+    /// what scopes bind
+    bound: Vec<Bound>,
     /// the mark of what no scope binds
     mark: Mark,
-    /// the context of each mention, by what was declared before it
-    guesses: Vec<SyntaxContext>,
+    mentions: Vec<Mention>,
+    /// the number of the name that was mentioned last, or one that no name has
+    mentioned: u32,
 }
 
 impl<'a> Scopes<'a> {
     pub(crate) fn new(alloc: Global, mark: Mark) -> Result<Scopes<'a>, AllocError> {
         Ok(Scopes {
-            alloc,
             symbols: HashMap::new(alloc),
             recent: vec![in alloc; None; RECENT]?,
-            bindings: Vec::new(alloc),
+            known: Vec::new(alloc),
             scopes: Vec::new(alloc),
             open: Vec::new(alloc),
-            events: Vec::new(alloc),
+            bound: Vec::new(alloc),
             mark,
-            guesses: Vec::new(alloc),
+            mentions: Vec::new(alloc),
+            mentioned: u32::MAX,
         })
     }
 
     /// The number of a name.
+    #[inline(always)]
     fn symbol(&mut self, name: &'a str) -> Result<u32, AllocError> {
         let place = place_of(name);
         let symbol = match self.recent_symbol(place, name) {
@@ -125,6 +177,7 @@ impl<'a> Scopes<'a> {
     }
 
     /// The number of a name that was met lately, if it is kept at this place.
+    #[inline(always)]
     fn recent_symbol(&self, place: usize, name: &str) -> Option<u32> {
         match self.recent.get(place) {
             Some(Some((recent, symbol))) if *recent == name => Some(*symbol),
@@ -133,28 +186,27 @@ impl<'a> Scopes<'a> {
     }
 
     /// The number of a name that was met before, or else the next one.
+    #[inline(never)]
     fn kept_symbol(&mut self, name: &'a str) -> Result<u32, AllocError> {
-        let next = u32::try_from(self.symbols.len()).unwrap_or(0);
+        let next = count(&self.known);
         match self.symbols.entry(name)? {
             Entry::Occupied(kept) => Ok(*kept.get()),
             Entry::Vacant(place) => {
                 place.insert(next);
-                self.bindings.push(None)?;
+                self.known.push(Known {
+                    binding: None,
+                    context: SyntaxContext::empty().apply_mark(self.mark),
+                    last: 0,
+                })?;
                 Ok(next)
             }
         }
     }
 
-    /// How many scopes there are.
-    fn count(&self) -> u32 {
-        u32::try_from(self.scopes.len()).unwrap_or(0)
-    }
-
     #[inline(never)]
     pub(crate) fn open(&mut self, kind: ScopeKind) -> Result<(), AllocError> {
-        let number = self.count();
+        let number = count(&self.scopes);
         let round = self.innermost();
-        self.events.push(Event::Open(number))?;
         let function = match kind {
             ScopeKind::Function | ScopeKind::Body => number,
             ScopeKind::Block | ScopeKind::CatchBody => self.function_of(round),
@@ -166,60 +218,67 @@ impl<'a> Scopes<'a> {
         self.scopes.push(Scope {
             function,
             beside,
-            names: Vec::new(self.alloc),
+            names: 0,
+            opened_behind: count(&self.mentions),
         })?;
         self.open.push(number)?;
         Ok(())
     }
 
+    /// Closes the innermost scope: what was known before of the names that it binds is known again.
     #[inline(never)]
-    pub(crate) fn close(&mut self) -> Result<(), AllocError> {
-        self.events.push(Event::Close)?;
+    pub(crate) fn close(&mut self) {
         let closed = self.open.pop().unwrap_or(0);
-        if let Some(scope) = self.scopes.get(closed as usize) {
-            restore(scope.names.as_slice(), &mut self.bindings);
+        let mut link = match self.scopes.get(closed as usize) {
+            Some(scope) => scope.names,
+            None => 0,
+        };
+        for _ in 0..self.bound.len() {
+            let Some(bound) = self.bound.get(place_behind(link)).copied() else {
+                break;
+            };
+            if let Some(known) = self.known.get_mut(bound.symbol as usize) {
+                *known = bound.outer;
+            }
+            link = bound.before;
         }
-        Ok(())
     }
 
     /// A name that is read, written or declared here. The answer is its context by what was declared before it.
+    #[inline(always)]
     pub(crate) fn mention(&mut self, name: &'a str) -> Result<SyntaxContext, AllocError> {
         let symbol = self.symbol(name)?;
-        self.events.push(Event::Mention(symbol))?;
-        let guess = self.context_here(symbol);
-        self.guesses.push(guess)?;
-        Ok(guess)
-    }
-
-    /// The context of a name by what was declared so far.
-    fn context_here(&self, symbol: u32) -> SyntaxContext {
-        let found = match self.binding(symbol) {
-            Some(binding) => mark_of(self.mark, binding.scope),
-            None => self.mark,
+        self.mentioned = symbol;
+        let link = count(&self.mentions).wrapping_add(1);
+        let mut mention = Mention {
+            context: SyntaxContext::empty(),
+            is_late: false,
+            before: 0,
         };
-        SyntaxContext::empty().apply_mark(found)
-    }
-
-    /// The number of the name that was mentioned last, or one that no name has.
-    fn last_mentioned(&self) -> u32 {
-        match self.events.last() {
-            Some(Event::Mention(symbol)) => *symbol,
-            _ => u32::MAX,
+        if let Some(known) = self.known.get_mut(symbol as usize) {
+            mention.context = known.context;
+            mention.before = known.last;
+            known.last = link;
         }
+        self.mentions.push(mention)?;
+        Ok(mention.context)
     }
 
     /// The context of the name that was mentioned last, which is declared here.
     pub(crate) fn declared_context(&mut self) -> SyntaxContext {
-        let context = self.context_here(self.last_mentioned());
-        if let Some(guess) = self.guesses.last_mut() {
-            *guess = context;
+        let context = match self.known.get(self.mentioned as usize) {
+            Some(known) => known.context,
+            None => SyntaxContext::empty(),
+        };
+        if let Some(mention) = self.mentions.last_mut() {
+            mention.context = context;
         }
         context
     }
 
-    /// The context of each mention so far, by what was declared before it.
-    pub(crate) fn guesses(&self) -> &[SyntaxContext] {
-        self.guesses.as_slice()
+    /// The mentions so far, in the order of the text. Those are final that no open scope may still bind.
+    pub(crate) fn mentions(&self) -> &[Mention] {
+        self.mentions.as_slice()
     }
 
     /// The innermost scope that is open.
@@ -245,67 +304,82 @@ impl<'a> Scopes<'a> {
 
     /// What binds a name here.
     fn binding(&self, symbol: u32) -> Option<Binding> {
-        match self.bindings.get(symbol as usize) {
-            Some(found) => *found,
+        match self.known.get(symbol as usize) {
+            Some(known) => known.binding,
             None => None,
         }
     }
 
     fn set_binding(&mut self, symbol: u32, binding: Binding) {
-        if let Some(place) = self.bindings.get_mut(symbol as usize) {
-            *place = Some(binding);
+        if let Some(known) = self.known.get_mut(symbol as usize) {
+            known.binding = Some(binding);
         }
     }
 
-    fn bind(&mut self, symbol: u32, binding: Binding) -> Result<(), AllocError> {
-        let before = self.binding(symbol);
-        if let Some(found) = self.scopes.get_mut(binding.scope as usize) {
-            found.names.push((symbol, before))?;
+    /// Binds the name that was mentioned last, which the scope of the binding does not bind yet, nor one inside it.
+    fn bind(&mut self, binding: Binding) -> Result<(), AllocError> {
+        let symbol = self.mentioned;
+        let own = mark_of(self.mark, binding.scope);
+        let context = SyntaxContext::empty().apply_mark(own);
+        let (start, before) = match self.scopes.get(binding.scope as usize) {
+            Some(scope) => (scope.opened_behind, scope.names),
+            None => (0, 0),
+        };
+        let Some(known) = self.known.get_mut(symbol as usize) else {
+            return Ok(());
+        };
+        let mut outer = *known;
+        known.binding = Some(binding);
+        known.context = context;
+        outer.last = bind_since(&mut self.mentions, start, context);
+        self.bound.push(Bound {
+            symbol,
+            outer,
+            before,
+        })?;
+        let last = count(&self.bound);
+        if let Some(scope) = self.scopes.get_mut(binding.scope as usize) {
+            scope.names = last;
         }
-        self.set_binding(symbol, binding);
         Ok(())
     }
 
+    /// Declares the name that was mentioned last, and says whether it may.
+    pub(crate) fn declare(&mut self, what: Declared) -> Result<bool, AllocError> {
+        match what {
+            Declared::Var => self.declare_var(),
+            Declared::Param => self.declare_here(true),
+            Declared::Lexical => self.declare_here(false),
+        }
+    }
+
     /// Declares the name that was mentioned last in the innermost scope, and says whether it may.
-    pub(crate) fn declare(&mut self) -> Result<bool, AllocError> {
-        self.declare_here(false)
-    }
-
-    /// Declares the name that was mentioned last as a parameter of the innermost scope, and says whether it may.
-    pub(crate) fn declare_param(&mut self) -> Result<bool, AllocError> {
-        self.declare_here(true)
-    }
-
     fn declare_here(&mut self, is_var: bool) -> Result<bool, AllocError> {
-        let symbol = self.last_mentioned();
         let scope = self.innermost();
         // A `var` that came since the scope was opened stands inside it.
-        if let Some(found) = self.binding(symbol)
+        if let Some(found) = self.binding(self.mentioned)
             && (found.scope == scope
                 || found.opened > scope
                 || self.is_beside(found.scope, scope))
         {
             return Ok(false);
         }
-        self.bind(
-            symbol,
-            Binding {
-                scope,
-                is_var,
-                opened: 0,
-            },
-        )?;
+        self.bind(Binding {
+            scope,
+            is_var,
+            opened: 0,
+        })?;
         Ok(true)
     }
 
     /// Declares the name that was mentioned last by `var`, and says whether it may.
-    pub(crate) fn declare_var(&mut self) -> Result<bool, AllocError> {
-        let symbol = self.last_mentioned();
+    fn declare_var(&mut self) -> Result<bool, AllocError> {
+        let symbol = self.mentioned;
         let scope = self.function_of(self.innermost());
         let binding = Binding {
             scope,
             is_var: true,
-            opened: self.count(),
+            opened: count(&self.scopes),
         };
         match self.binding(symbol) {
             // The function binds it, or a scope inside it that is open.
@@ -321,7 +395,7 @@ impl<'a> Scopes<'a> {
             }
             Some(found) if self.is_beside(found.scope, scope) => Ok(false),
             _ => {
-                self.bind(symbol, binding)?;
+                self.bind(binding)?;
                 Ok(true)
             }
         }
@@ -337,71 +411,25 @@ impl<'a> Scopes<'a> {
             None => false,
         }
     }
+}
 
-    /// The context of each mention, in the order of the text. The k-th scope has the k-th context behind the mark.
-    pub(crate) fn contexts(&self) -> Result<Vec<SyntaxContext>, AllocError> {
-        let mark = self.mark;
-        let mut current = vec![in self.alloc; mark; self.symbols.len()]?;
-        let mut hidden: Vec<(u32, Mark)> = Vec::new(self.alloc);
-        let mut heights: Vec<usize> = Vec::new(self.alloc);
-        let mut contexts = Vec::with_capacity(self.alloc, self.guesses.len())?;
-        for event in &self.events {
-            match *event {
-                Event::Open(number) => {
-                    heights.push(hidden.len())?;
-                    let own = mark_of(mark, number);
-                    self.enter(number, own, &mut current, &mut hidden)?;
-                }
-                Event::Close => {
-                    let height = heights.pop().unwrap_or(0);
-                    leave(height, &mut current, &mut hidden);
-                }
-                Event::Mention(symbol) => {
-                    let found = current.get(symbol as usize).copied().unwrap_or(mark);
-                    contexts.push(SyntaxContext::empty().apply_mark(found))?;
-                }
-            }
+/// Gives a context to the mentions behind a place of the name that was mentioned last, but for the last one. The answer is its last
+/// mention before them that an open scope may still bind.
+fn bind_since(mentions: &mut Vec<Mention>, start: Link, context: SyntaxContext) -> Link {
+    let mut link = match mentions.last() {
+        Some(last) => last.before,
+        None => 0,
+    };
+    for _ in 0..mentions.len() {
+        if link <= start {
+            break;
         }
-        Ok(contexts)
-    }
-
-    /// The names of a scope take its mark, and those that they hide are kept.
-    fn enter(
-        &self,
-        number: u32,
-        own: Mark,
-        current: &mut Vec<Mark>,
-        hidden: &mut Vec<(u32, Mark)>,
-    ) -> Result<(), AllocError> {
-        let Some(scope) = self.scopes.get(number as usize) else {
-            return Ok(());
+        let Some(mention) = mentions.get_mut(place_behind(link)) else {
+            break;
         };
-        for (symbol, _) in &scope.names {
-            if let Some(place) = current.get_mut(*symbol as usize) {
-                hidden.push((*symbol, *place))?;
-                *place = own;
-            }
-        }
-        Ok(())
+        mention.context = context;
+        mention.is_late = true;
+        link = mention.before;
     }
-}
-
-/// What bound names before binds them again.
-fn restore(names: &[(u32, Option<Binding>)], bindings: &mut Vec<Option<Binding>>) {
-    for (symbol, before) in names {
-        if let Some(place) = bindings.get_mut(*symbol as usize) {
-            *place = *before;
-        }
-    }
-}
-
-/// What was hidden since then is seen again.
-fn leave(height: usize, current: &mut Vec<Mark>, hidden: &mut Vec<(u32, Mark)>) {
-    for _ in height..hidden.len() {
-        if let Some((symbol, before)) = hidden.pop()
-            && let Some(place) = current.get_mut(symbol as usize)
-        {
-            *place = before;
-        }
-    }
+    link
 }

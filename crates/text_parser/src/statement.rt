@@ -1,39 +1,48 @@
 //! Statements and declarations.
-use crate::cursor::{Nested, Parser, inside, part};
+use crate::cursor::{Parser, Read};
 use crate::kept::{take_from, take_last};
-use crate::scopes::ScopeKind;
-use crate::targets::Target;
+use crate::scopes::{Declared, ScopeKind};
 use swc_ast::{
-    BlockStmt, Decl, EmptyStmt, Expr, ExprStmt, Ident, IdentName, LabeledStmt, Stmt, VarDecl,
-    VarDeclKind, VarDeclarator,
+    BlockStmt, Decl, EmptyStmt, Expr, ExprStmt, IdentName, LabeledStmt, Stmt, VarDecl, VarDeclKind,
+    VarDeclarator,
 };
-use text_lexer::{Construct, Fault, Kind, Token};
+use text_lexer::{Construct, Kind, Token};
+
+/// A declaration of variables that has begun.
+#[derive(Clone, Copy)]
+pub(crate) struct Begun {
+    start: u32,
+    kind: VarDeclKind,
+    /// from where on its variables are kept
+    first: usize,
+}
 
 impl<'a> Parser<'a> {
     /// Keeps the statements up to a brace or a case, and returns their levels.
     #[inline(never)]
     #[cycle(parser)]
-    pub(crate) fn statements(&mut self, room: u32) -> Result<u32, Fault> {
+    pub(crate) fn statements(&mut self, room: u32) -> Read<u32> {
         let mut levels = 0;
         for _ in self.place..self.tokens.len() {
             if matches!(self.kind(), Kind::RightBrace | Kind::Case | Kind::Default) {
                 break;
             }
-            let next = self.listed(inside(room)?)?;
+            let inner = self.inside(room)?;
+            let next = self.listed(inner)?;
             levels = levels.max(next);
         }
         Ok(levels)
     }
 
     /// A statement of the list of a script or a module.
-    pub(crate) fn item_stmt(&mut self, room: u32) -> Result<Stmt, Fault> {
+    pub(crate) fn item_stmt(&mut self, room: u32) -> Read<Stmt> {
         self.listed(room)?;
         take_last(&mut self.kept.stmts)
     }
 
     /// Keeps a statement of a list: also what a list alone may declare. Its levels are returned.
     #[cycle(parser)]
-    pub(crate) fn listed(&mut self, room: u32) -> Result<u32, Fault> {
+    pub(crate) fn listed(&mut self, room: u32) -> Read<u32> {
         match self.kind() {
             Kind::Function => self.function_stmt(room),
             Kind::Let | Kind::Const => self.variable_stmt(room),
@@ -43,30 +52,29 @@ impl<'a> Parser<'a> {
 
     #[inline(never)]
     #[cycle(parser)]
-    fn variable_stmt(&mut self, room: u32) -> Result<u32, Fault> {
-        let start = self.start();
-        let decl = self.declarators(room, false)?;
-        self.variable_stmt_of(start, decl)
+    fn variable_stmt(&mut self, room: u32) -> Read<u32> {
+        let begun = self.begin_variables();
+        let levels = self.declarators(room, begun, false)?;
+        self.variable_stmt_of(begun, levels)
     }
 
     #[inline(never)]
-    fn variable_stmt_of(&mut self, start: u32, decl: Nested<VarDecl>) -> Result<u32, Fault> {
+    fn variable_stmt_of(&mut self, begun: Begun, levels: u32) -> Read<u32> {
         self.semicolon()?;
-        let mut node = decl.node;
-        node.span = self.span_from(start);
-        self.keep(Stmt::Decl(Decl::Var(node)), decl.levels)
+        let node = self.variables(begun)?;
+        self.keep(Stmt::Decl(Decl::Var(node)), levels)
     }
 
     #[inline(never)]
     #[cycle(parser)]
-    fn block_stmt(&mut self, room: u32) -> Result<u32, Fault> {
+    fn block_stmt(&mut self, room: u32) -> Read<u32> {
         let levels = self.block(room, ScopeKind::Block)?;
         self.block_stmt_of(levels)
     }
 
     /// Keeps the block that was kept last as a statement.
     #[inline(never)]
-    fn block_stmt_of(&mut self, levels: u32) -> Result<u32, Fault> {
+    fn block_stmt_of(&mut self, levels: u32) -> Read<u32> {
         let block = take_last(&mut self.kept.blocks)?;
         self.keep(Stmt::Block(block), levels)
     }
@@ -74,7 +82,7 @@ impl<'a> Parser<'a> {
     /// Keeps a block, which opens a scope, and returns the levels of its statements.
     #[inline(never)]
     #[cycle(parser)]
-    pub(crate) fn block(&mut self, room: u32, kind: ScopeKind) -> Result<u32, Fault> {
+    pub(crate) fn block(&mut self, room: u32, kind: ScopeKind) -> Read<u32> {
         let start = self.start();
         self.expect(Kind::LeftBrace)?;
         self.scopes.open(kind)?;
@@ -86,14 +94,9 @@ impl<'a> Parser<'a> {
 
     /// Keeps the block of the statements from this one on that were kept, which ends here. A scope may end with it.
     #[inline(never)]
-    pub(crate) fn block_of(
-        &mut self,
-        start: u32,
-        first: usize,
-        is_scope: bool,
-    ) -> Result<(), Fault> {
+    pub(crate) fn block_of(&mut self, start: u32, first: usize, is_scope: bool) -> Read<()> {
         if is_scope {
-            self.scopes.close()?;
+            self.scopes.close();
         }
         self.expect(Kind::RightBrace)?;
         let stmts = take_from(&mut self.kept.stmts, first)?;
@@ -103,69 +106,63 @@ impl<'a> Parser<'a> {
     }
 
     /// `var`, `let` or `const` with its semicolon, whose names are exported.
-    pub(crate) fn exported_variables(&mut self, room: u32) -> Result<VarDecl, Fault> {
-        let start = self.start();
-        let decl = self.declarators(room, true)?;
+    pub(crate) fn exported_variables(&mut self, room: u32) -> Read<VarDecl> {
+        let begun = self.begin_variables();
+        self.declarators(room, begun, true)?;
         self.semicolon()?;
-        let mut node = decl.node;
-        node.span = self.span_from(start);
-        Ok(node)
+        self.variables(begun)
     }
 
-    /// `var`, `let` or `const` without its semicolon.
-    #[inline(never)]
-    #[cycle(parser)]
-    pub(crate) fn declarators(
-        &mut self,
-        room: u32,
-        is_exported: bool,
-    ) -> Result<Nested<VarDecl>, Fault> {
+    /// Passes `var`, `let` or `const`.
+    #[inline(always)]
+    pub(crate) fn begin_variables(&mut self) -> Begun {
         let start = self.start();
         let kind = match self.kind() {
             Kind::Var => VarDeclKind::Var,
             Kind::Let => VarDeclKind::Let,
             _ => VarDeclKind::Const,
         };
-        self.bump();
         let first = self.kept.decls.len();
+        self.bump();
+        Begun { start, kind, first }
+    }
+
+    /// Keeps the variables of a declaration, up to its semicolon, and returns their levels.
+    #[inline(never)]
+    #[cycle(parser)]
+    pub(crate) fn declarators(&mut self, room: u32, begun: Begun, is_exported: bool) -> Read<u32> {
         let mut levels = 0;
         for _ in self.place..self.tokens.len() {
-            let next = self.declarator(room, kind, is_exported)?;
+            let next = self.declarator(room, begun.kind, is_exported)?;
             levels = levels.max(next);
             if !self.take(Kind::Comma) {
                 break;
             }
         }
-        self.variables(start, kind, first, levels)
+        Ok(levels)
     }
 
-    #[inline(never)]
-    fn variables(
-        &mut self,
-        start: u32,
-        kind: VarDeclKind,
-        first: usize,
-        levels: u32,
-    ) -> Result<Nested<VarDecl>, Fault> {
-        let decls = take_from(&mut self.kept.decls, first)?;
-        let span = self.span_from(start);
-        Ok(part(VarDecl { span, kind, decls }, levels))
+    /// The declaration whose variables were kept, which ends here.
+    #[inline(always)]
+    pub(crate) fn variables(&mut self, begun: Begun) -> Read<VarDecl> {
+        let decls = take_from(&mut self.kept.decls, begun.first)?;
+        Ok(VarDecl {
+            span: self.span_from(begun.start),
+            kind: begun.kind,
+            decls,
+        })
     }
 
     /// Keeps a variable with its value, if it has one, and returns the levels of that.
     #[inline(never)]
     #[cycle(parser)]
-    fn declarator(
-        &mut self,
-        room: u32,
-        kind: VarDeclKind,
-        is_exported: bool,
-    ) -> Result<u32, Fault> {
+    fn declarator(&mut self, room: u32, kind: VarDeclKind, is_exported: bool) -> Read<u32> {
         let start = self.start();
         self.variable(kind, is_exported)?;
         if self.take(Kind::Equal) {
-            let value = self.assignment(inside(room)?)?;
-            return Ok(self.initialized(start, value));
+            let value = self.assignment_inside(room)?;
+            self.initialize(start, value);
+            return Ok(self.levels);
         }
         if matches!(kind, VarDeclKind::Const) {
             return Err(self.refuse());
@@ -173,25 +170,26 @@ impl<'a> Parser<'a> {
         Ok(0)
     }
 
-    /// Gives the variable that was kept last its value, and returns the levels of that.
+    /// Gives the variable that was kept last its value.
     #[inline(never)]
-    fn initialized(&mut self, start: u32, value: Nested<Box<Expr>>) -> u32 {
+    fn initialize(&mut self, start: u32, value: Box<Expr>) {
         let span = self.span_from(start);
-        let levels = value.levels;
-        let init = value.node;
         if let Some(last) = self.kept.decls.last_mut() {
             last.span = span;
-            last.init = Some(init);
+            last.init = Some(value);
         }
-        levels
     }
 
     /// Keeps a variable, whose name is declared here.
     #[inline(never)]
-    fn variable(&mut self, kind: VarDeclKind, is_exported: bool) -> Result<(), Fault> {
+    fn variable(&mut self, kind: VarDeclKind, is_exported: bool) -> Read<()> {
         let token = self.token();
-        let mut name = self.bound_or_pattern()?;
-        name.ctxt = self.declare(kind, token)?;
+        self.refuse_destructuring()?;
+        let what = match kind {
+            VarDeclKind::Var => Declared::Var,
+            VarDeclKind::Let | VarDeclKind::Const => Declared::Lexical,
+        };
+        let name = self.declared(what)?;
         if is_exported {
             self.export(token)?;
         }
@@ -203,7 +201,7 @@ impl<'a> Parser<'a> {
 
     /// Keeps a statement, and returns its levels.
     #[cycle(parser)]
-    pub(crate) fn statement(&mut self, room: u32) -> Result<u32, Fault> {
+    pub(crate) fn statement(&mut self, room: u32) -> Read<u32> {
         match self.kind() {
             Kind::LeftBrace => self.block_stmt(room),
             Kind::Semicolon => self.empty(),
@@ -230,7 +228,7 @@ impl<'a> Parser<'a> {
 
     /// Refuses what begins no statement.
     #[inline(never)]
-    fn no_statement(&self) -> Result<u32, Fault> {
+    fn no_statement(&mut self) -> Read<u32> {
         Err(match self.kind() {
             Kind::With => self.leave_out(Construct::With),
             Kind::Debugger => self.leave_out(Construct::Debugger),
@@ -239,7 +237,7 @@ impl<'a> Parser<'a> {
     }
 
     #[inline(never)]
-    fn empty(&mut self) -> Result<u32, Fault> {
+    fn empty(&mut self) -> Read<u32> {
         let start = self.start();
         self.bump();
         let span = self.span_from(start);
@@ -248,34 +246,32 @@ impl<'a> Parser<'a> {
 
     #[inline(never)]
     #[cycle(parser)]
-    fn expression_stmt(&mut self, room: u32) -> Result<u32, Fault> {
+    fn expression_stmt(&mut self, room: u32) -> Read<u32> {
         let start = self.start();
-        let expr = self.expression(inside(room)?)?;
+        let expr = self.expression_inside(room)?;
         self.expression_stmt_of(start, expr)
     }
 
     #[inline(never)]
-    fn expression_stmt_of(&mut self, start: u32, expr: Nested<Box<Expr>>) -> Result<u32, Fault> {
+    fn expression_stmt_of(&mut self, start: u32, expr: Box<Expr>) -> Read<u32> {
         self.semicolon()?;
-        let node = ExprStmt {
-            span: self.span_from(start),
-            expr: expr.node,
-        };
-        self.keep(Stmt::Expr(node), expr.levels)
+        let span = self.span_from(start);
+        let levels = self.levels;
+        self.keep(Stmt::Expr(ExprStmt { span, expr }), levels)
     }
 
     #[inline(never)]
     #[cycle(parser)]
-    fn labeled(&mut self, room: u32) -> Result<u32, Fault> {
+    fn labeled(&mut self, room: u32) -> Read<u32> {
         let token = self.token();
         let label = self.label(token)?;
-        let body = self.boxed_statement(room);
+        let body = self.boxed_statement(room)?;
         self.labeled_of(token, label, body)
     }
 
     /// A label and its colon, which jumps may lead to from here on.
     #[inline(never)]
-    fn label(&mut self, token: Token) -> Result<IdentName, Fault> {
+    fn label(&mut self, token: Token) -> Read<IdentName> {
         let name = self.text_of(token);
         if self.targets.has_label(name) {
             return Err(self.refuse());
@@ -283,26 +279,21 @@ impl<'a> Parser<'a> {
         let of_loop = self.loop_is_labeled();
         let label = self.word()?;
         self.expect(Kind::Colon)?;
-        self.targets.push(Target::Label { name, of_loop })?;
+        self.targets.push_label(name, of_loop)?;
         Ok(label)
     }
 
     #[inline(never)]
-    fn labeled_of(
-        &mut self,
-        token: Token,
-        label: IdentName,
-        body: Result<Nested<Box<Stmt>>, Fault>,
-    ) -> Result<u32, Fault> {
-        let body = body?;
+    fn labeled_of(&mut self, token: Token, label: IdentName, body: Box<Stmt>) -> Read<u32> {
         let name = self.text_of(token);
         self.targets.pop_label(name);
         let node = LabeledStmt {
             span: self.span_from(token.start),
             label,
-            body: body.node,
+            body,
         };
-        self.keep(Stmt::Labeled(node), body.levels)
+        let levels = self.levels;
+        self.keep(Stmt::Labeled(node), levels)
     }
 
     /// Whether the labels here stand before a loop.

@@ -2,11 +2,11 @@
 use std::alloc::{AllocError, Global};
 use std::collections::HashMap;
 
+/// What a jump without a label may lead to.
 #[derive(Clone, Copy)]
-pub(crate) enum Target<'a> {
+pub(crate) enum Target {
     Loop,
     Switch,
-    Label { name: &'a str, of_loop: bool },
 }
 
 /// How many loops and switches are open in a function.
@@ -39,27 +39,26 @@ impl<'a> Targets<'a> {
         }
     }
 
-    #[inline(never)]
-    pub(crate) fn push(&mut self, target: Target<'a>) -> Result<(), AllocError> {
+    pub(crate) fn push(&mut self, target: Target) {
         let Unnamed { loops, switches } = self.unnamed;
         match target {
             Target::Loop => self.unnamed.loops = loops.saturating_add(1),
             Target::Switch => self.unnamed.switches = switches.saturating_add(1),
-            Target::Label { name, of_loop } => {
-                self.labels.insert((self.functions, name), of_loop)?;
-            }
         }
-        Ok(())
     }
 
-    #[inline(never)]
-    pub(crate) fn pop(&mut self, target: Target<'a>) {
+    pub(crate) fn pop(&mut self, target: Target) {
         let Unnamed { loops, switches } = self.unnamed;
         match target {
             Target::Loop => self.unnamed.loops = loops.saturating_sub(1),
             Target::Switch => self.unnamed.switches = switches.saturating_sub(1),
-            Target::Label { name, .. } => self.pop_label(name),
         }
+    }
+
+    #[inline(never)]
+    pub(crate) fn push_label(&mut self, name: &'a str, of_loop: bool) -> Result<(), AllocError> {
+        self.labels.insert((self.functions, name), of_loop)?;
+        Ok(())
     }
 
     #[inline(never)]

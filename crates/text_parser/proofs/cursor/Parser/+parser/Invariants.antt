@@ -18,10 +18,13 @@ abbrev pub decreases-arrow_params : goal.decreases-arrow_params
 decreases-arrow_params l = 30 * l.room + 14
 
 abbrev pub decreases-assignment : goal.decreases-assignment
-decreases-assignment l = 30 * l.room + 23
+decreases-assignment l = 30 * l.room + 24
 
 abbrev pub decreases-assignment_behind : goal.decreases-assignment_behind
 decreases-assignment_behind l = 30 * l.room + 22
+
+abbrev pub decreases-assignment_inside : goal.decreases-assignment_inside
+decreases-assignment_inside l = 30 * l.room
 
 abbrev pub decreases-attempt : goal.decreases-attempt
 decreases-attempt l = 30 * l.room + 18
@@ -89,6 +92,9 @@ decreases-declarator l = 30 * l.room + 11
 abbrev pub decreases-declarators : goal.decreases-declarators
 decreases-declarators l = 30 * l.room + 12
 
+abbrev pub decreases-declared_function : goal.decreases-declared_function
+decreases-declared_function l = 30 * l.room + 17
+
 abbrev pub decreases-do_loop : goal.decreases-do_loop
 decreases-do_loop l = 30 * l.room + 18
 
@@ -96,13 +102,13 @@ abbrev pub decreases-do_test : goal.decreases-do_test
 decreases-do_test l = 30 * l.room + 2
 
 abbrev pub decreases-expression : goal.decreases-expression
-decreases-expression l = 30 * l.room + 24
+decreases-expression l = 30 * l.room + 25
 
 abbrev pub decreases-expression_behind : goal.decreases-expression_behind
 decreases-expression_behind l = 30 * l.room + 1
 
 abbrev pub decreases-expression_inside : goal.decreases-expression_inside
-decreases-expression_inside l = 30 * l.room + 1
+decreases-expression_inside l = 30 * l.room
 
 abbrev pub decreases-expression_stmt : goal.decreases-expression_stmt
 decreases-expression_stmt l = 30 * l.room + 18
@@ -146,11 +152,11 @@ decreases-leave_function l = 30 * l.room + 18
 abbrev pub decreases-listed : goal.decreases-listed
 decreases-listed l = 30 * l.room + 24
 
+abbrev pub decreases-longer_assignment : goal.decreases-longer_assignment
+decreases-longer_assignment l = 30 * l.room + 23
+
 abbrev pub decreases-loop_body : goal.decreases-loop_body
 decreases-loop_body l = 30 * l.room + 2
-
-abbrev pub decreases-member_behind : goal.decreases-member_behind
-decreases-member_behind l = 30 * l.room + 3
 
 abbrev pub decreases-members_behind : goal.decreases-members_behind
 decreases-members_behind l = 30 * l.room + 19
