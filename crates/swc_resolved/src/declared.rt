@@ -296,7 +296,7 @@ pub(crate) fn add_head<'a>(
 {
     match children.next() {
         None => Ok(()),
-        Some((head, _)) => add_names_of(names, head, Part::Declarations),
+        Some((head, _)) => add_declaration(names, head),
     }
 }
 

@@ -36,7 +36,7 @@ fn line_len(bytes: &[u8]) -> usize {
     let mut len: usize = 0;
     for _ in 0..=bytes.len() {
         let rest = bytes.get(len..).unwrap_or(b"");
-        len = len.saturating_add(len_before(rest, [b'\n', b'\r', 0xE2, 0xE2, 0xE2]));
+        len = len.saturating_add(len_before(rest, [b'\n', b'\r', 0xE2]));
         match bytes.get(len..) {
             Some(rest @ [0xE2, ..]) if !begins_with_separator(rest) => len = len.saturating_add(1),
             _ => break,
@@ -51,7 +51,7 @@ fn comment(bytes: &[u8]) -> Blank {
     let mut breaks_line = false;
     for _ in 0..=bytes.len() {
         let rest = bytes.get(len..).unwrap_or(b"");
-        len = len.saturating_add(len_before(rest, [b'*', b'\n', b'\r', 0xE2, 0xE2]));
+        len = len.saturating_add(len_before(rest, [b'*', b'\n', b'\r', 0xE2]));
         match bytes.get(len..) {
             Some([b'*', b'/', ..]) => {
                 return Blank {

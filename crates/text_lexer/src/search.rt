@@ -8,19 +8,17 @@ pub(crate) const LANES: usize = 16;
 
 /// How many bytes stand before the first that is one of these.
 #[inline(always)]
-pub(crate) fn len_before(bytes: &[u8], stops: [u8; 5]) -> usize
+pub(crate) fn len_before<const N: usize>(bytes: &[u8], stops: [u8; N]) -> usize
     ensures { result ≤ length bytes.now }
 {
     let mut passed: usize = 0;
     let (blocks, rest) = bytes.as_chunks::<LANES>();
     for block in blocks {
         let block = u8x16::from_array(*block);
-        let found = block.simd_eq(u8x16::splat(stops[0]))
-            | block.simd_eq(u8x16::splat(stops[1]))
-            | block.simd_eq(u8x16::splat(stops[2]))
-            | block.simd_eq(u8x16::splat(stops[3]))
-            | block.simd_eq(u8x16::splat(stops[4]));
-        let found = found.to_bitmask();
+        let mut found = 0;
+        for stop in stops {
+            found |= block.simd_eq(u8x16::splat(stop)).to_bitmask();
+        }
         if found != 0 {
             let len = passed.saturating_add(found.trailing_zeros() as usize);
             return len.min(bytes.len());

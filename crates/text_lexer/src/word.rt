@@ -2,7 +2,6 @@
 ghost use Rattle.std.specs.Prelude.{◌≡◌, ◌≤◌, length};
 ghost use Rattle.text_lexer.specs.Words.{word_part};
 
-use crate::class::Class;
 use crate::reserved::{kind_of_long, kind_of_short};
 use crate::search::LANES;
 use crate::token::Kind;
@@ -22,7 +21,7 @@ pub(crate) fn word_len(bytes: &[u8]) -> usize
     ensures { result ≤ length bytes.now }
 {
     for (i, byte) in bytes.iter().enumerate() {
-        if !Class::of(*byte).is_part() {
+        if !is_word_part(*byte) {
             return i;
         }
     }
