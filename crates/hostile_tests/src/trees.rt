@@ -28,7 +28,7 @@ fn nothing() -> Expr {
 /// A template of more expressions than texts, and none.
 fn template(alloc: Global) -> Result<Expr, AllocError> {
     let span = span();
-    let quasis = Vec::new(alloc);
+    let quasis = Box::new(alloc, Vec::new(alloc))?;
     let exprs = vec![in alloc; number(1), nothing()]?;
     Ok(Expr::Tpl(Tpl {
         span,

@@ -1,4 +1,4 @@
-//! Texts of names. Most of them are short: a text of at most 16 bytes stands in the value itself and asks for no memory.
+//! Texts of names. Most of them are short: a text of at most 14 bytes stands in the value itself and asks for no memory.
 #![tactic(auto)]
 
 ghost use Rattle.std.specs.Prelude.{◌≡◌, [], Some, IfOk, bytes_eq, refl};
@@ -9,7 +9,9 @@ ghost use Rattle.std.specs.Cmp.Rules.{hashing};
 ghost use Rattle.std.specs.Hash as fed;
 ghost use Rattle.std.proofs.Common.{rules};
 
-use arrayvec::ArrayString;
+mod short;
+
+use short::Short;
 use std::alloc::{AllocError, Global};
 use std::cmp::Ordering;
 use std::convert::AsStr;
@@ -18,14 +20,11 @@ use std::hash::{Hash, Hasher};
 use std::marker::Model;
 use std::ops::DerefStr;
 
-/// The longest text that stands in the value itself, in bytes.
-const SHORT: usize = 16;
-
-/// Where a text stands.
+/// Where a text stands. A longer one is in a box, so that an atom takes 16 bytes.
 #[derive(Drop)]
 enum Text {
-    Short(ArrayString<SHORT>),
-    Long(String),
+    Short(Short),
+    Long(Box<String>),
 }
 
 /// The text of a name. A contract sees it as its bytes, which are UTF-8.
@@ -50,17 +49,17 @@ impl Atom {
         ensures { result ≡ [] }
     {
         Atom {
-            text: Text::Short(ArrayString::new()),
+            text: Text::Short(Short::empty()),
         }
     }
 
-    /// A copy of a text. Fails where the memory for a text of more than 16 bytes is refused.
+    /// A copy of a text. Fails where the memory for a text of more than 14 bytes is refused.
     pub fn from_str(alloc: Global, text: &str) -> Result<Atom, AllocError>
         ensures ok { IfOk result (λ a. a ≡ text.now) }
     {
-        let text = match ArrayString::from(text) {
-            Ok(short) => Text::Short(short),
-            Err(_) => Text::Long(String::from_str(alloc, text)?),
+        let text = match Short::copy(text) {
+            Some(short) => Text::Short(short),
+            None => Text::Long(Box::new(alloc, String::from_str(alloc, text)?)?),
         };
         Ok(Atom { text })
     }
@@ -82,7 +81,7 @@ impl Clone for Atom {
 
     fn clone(&self) -> Result<Atom, AllocError> {
         let text = match &self.text {
-            Text::Short(short) => Text::Short(*short),
+            Text::Short(short) => Text::Short(short.again()),
             Text::Long(long) => Text::Long(long.clone()?),
         };
         Ok(Atom { text })

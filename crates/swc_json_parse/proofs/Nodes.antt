@@ -95,7 +95,7 @@ not_none levels ss (p ∷ r ∷ qs) (e ∷ es) h = refl
 
 -- a template with expressions
 pub template_exprs : (levels : ℕ) (n : Tpl Expr) → (length n.exprs.items ≡ 0 → ⊥) → text_within levels (tpl_tree expr_tree n) ≡ None
-template_exprs levels n h = not_none levels _ n.quasis.items n.exprs.items h
+template_exprs levels n h = not_none levels _ n.quasis.value.items n.exprs.items h
 
 -- an expression's text, by its node
 pub at_lit : (levels : ℕ) (e : Expr) (n : Lit) → e ≡ in_expr.Lit n → text_within levels (expr_tree e) ≡ lit_text n

@@ -34,9 +34,9 @@ fn beyond(op: BinaryOp, strength: u8) -> u8 {
     }
 }
 
-/// Whether a token ends each operand and each assignment before it.
+/// Whether a token ends the operand, the assignment or the expression before it.
 #[inline(always)]
-pub(crate) fn ends_operand(kind: Kind) -> bool {
+pub(crate) fn ends_expression(kind: Kind) -> bool {
     matches!(
         kind,
         Kind::Comma
@@ -68,9 +68,6 @@ impl<'a> Parser<'a> {
     pub(crate) fn expression(&mut self, room: u32) -> Read<Box<Expr>> {
         let start = self.start();
         let first = self.assignment(room)?;
-        if !self.is_at(Kind::Comma) {
-            return Ok(first);
-        }
         self.expression_behind(room, start, first)
     }
 
@@ -82,8 +79,8 @@ impl<'a> Parser<'a> {
         self.expression(inner)
     }
 
-    /// Further expressions behind commas.
-    #[inline(never)]
+    /// An expression whose first part, up to a comma if there is one, was read.
+    #[inline(always)]
     #[cycle(parser)]
     pub(crate) fn expression_behind(
         &mut self,
@@ -91,9 +88,17 @@ impl<'a> Parser<'a> {
         start: u32,
         first: Box<Expr>,
     ) -> Read<Box<Expr>> {
-        if !self.is_at(Kind::Comma) {
-            return Ok(first);
+        if self.is_at(Kind::Comma) {
+            self.sequence_behind(room, start, first)
+        } else {
+            Ok(first)
         }
+    }
+
+    /// Further expressions behind commas.
+    #[inline(never)]
+    #[cycle(parser)]
+    fn sequence_behind(&mut self, room: u32, start: u32, first: Box<Expr>) -> Read<Box<Expr>> {
         let place = self.kept.exprs.len();
         let mut levels = self.levels;
         self.keep_expr(first)?;
@@ -143,7 +148,7 @@ impl<'a> Parser<'a> {
         self.refuse_pattern()?;
         let start = self.start();
         let first = self.operand(room)?;
-        if ends_operand(self.kind()) {
+        if ends_expression(self.kind()) {
             return Ok(first);
         }
         self.assignment_behind(room, start, first)
@@ -158,7 +163,7 @@ impl<'a> Parser<'a> {
         first: Box<Expr>,
     ) -> Read<Box<Expr>> {
         let left = self.binary_behind(room, start, first, 0)?;
-        if ends_operand(self.kind()) {
+        if ends_expression(self.kind()) {
             return Ok(left);
         }
         if self.is_at(Kind::Question) {
@@ -288,7 +293,7 @@ impl<'a> Parser<'a> {
         }
         let start = self.start();
         let first = self.operand(inner)?;
-        if ends_operand(self.kind()) {
+        if ends_expression(self.kind()) {
             return Ok(first);
         }
         self.binary_behind(inner, start, first, least)
@@ -381,7 +386,7 @@ impl<'a> Parser<'a> {
         first: Box<Expr>,
     ) -> Read<Box<Expr>> {
         let found = self.members_behind(room, start, first, true)?;
-        if ends_operand(self.kind()) || self.token().on_new_line {
+        if ends_expression(self.kind()) || self.token().on_new_line {
             return Ok(found);
         }
         match update_op(self.kind()) {

@@ -1,6 +1,6 @@
 //! Names, literals, templates, arrays and parentheses.
 use crate::cursor::{Parser, Read};
-use crate::expression::ends_operand;
+use crate::expression::ends_expression;
 use crate::kept::take_from;
 use swc_ast::{
     ArrayLit, Bool, Expr, ExprOrSpread, Lit, Null, Number, Str, ThisExpr, Tpl, TplElement,
@@ -47,7 +47,7 @@ impl<'a> Parser<'a> {
     #[inline(always)]
     pub(crate) fn is_at_leaf(&self) -> bool {
         matches!(self.kind(), Kind::Name | Kind::Number | Kind::Text)
-            && ends_operand(self.next_kind())
+            && ends_expression(self.next_kind())
     }
 
     /// The name, the number or the text here.
@@ -173,7 +173,7 @@ impl<'a> Parser<'a> {
     ) -> Read<Box<Expr>> {
         let node = Tpl {
             span: self.span_from(start),
-            quasis: take_from(&mut self.kept.quasis, first_quasi)?,
+            quasis: Box::new(self.alloc, take_from(&mut self.kept.quasis, first_quasi)?)?,
             exprs: take_from(&mut self.kept.exprs, first)?,
         };
         self.nest(Expr::Tpl(node), levels)

@@ -29,7 +29,7 @@ fn template(alloc: Global) -> Result<Expr, AllocError> {
     let tail = true;
     Ok(Expr::Tpl(Tpl {
         span,
-        quasis: vec![in alloc; TplElement { span, tail, cooked }]?,
+        quasis: Box::new(alloc, vec![in alloc; TplElement { span, tail, cooked }]?)?,
         exprs: vec![in alloc; number(1)]?,
     }))
 }

@@ -90,7 +90,7 @@ pub lists::rest_of_sequence-returns : goal.lists::rest_of_sequence-returns
 lists::rest_of_sequence-returns t c = sequence_same (unresolved c.args.ctx.now) (c.args.n.now.span ∷ []) (list_trees expr_tree c.args.n.now.exprs.items) c.new-out.result.items c.add_all.new.out.items c.in_ok-made.made c.new-out.ensures.items c.if-made.false c.in_ok-made.ensures
 
 pub lists::rest_of_template-returns : goal.lists::rest_of_template-returns
-lists::rest_of_template-returns t c = template_rested (unresolved c.args.ctx.now) (c.args.n.now.span ∷ map quasi_span c.args.n.now.quasis.items) (list_trees expr_tree c.args.n.now.exprs.items) _ c.new-out.result.items c.add_all.new.out.items _ c.as_one.result c.changed.result (c.args.n.now.span ∷ []) (map quasi_text c.args.n.now.quasis.items) c.new-out.ensures.items c.in_ok-add_all.ensures c.as_one.ensures c.changed.ensures
+lists::rest_of_template-returns t c = template_rested (unresolved c.args.ctx.now) (c.args.n.now.span ∷ map quasi_span c.args.n.now.quasis.value.items) (list_trees expr_tree c.args.n.now.exprs.items) _ c.new-out.result.items c.add_all.new.out.items _ c.as_one.result c.changed.result (c.args.n.now.span ∷ []) (map quasi_text c.args.n.now.quasis.value.items) c.new-out.ensures.items c.in_ok-add_all.ensures c.as_one.ensures c.changed.ensures
 
 pub lists::rest_of_call-returns : goal.lists::rest_of_call-returns
 lists::rest_of_call-returns t c = call_rested (unresolved c.args.ctx.now) (c.args.n.now.span ∷ []) (list_trees expr_tree c.args.n.now.args.items) _ c.new-out.result.items c.add_all.new.out.items _ c.as_one.result c.changed.result (c.args.n.now.span ∷ []) c.args.n.now.span (expr_tree c.args.n.now.callee.value) (sym (ap (λ x. is_pure_callee (expr_tree x)) c.deref.ensures) ∙ sym c.is_pure_callee.ensures ∙ c.if-not-is_pure_callee.false) c.new-out.ensures.items c.in_ok-add_all.ensures c.as_one.ensures c.changed.ensures

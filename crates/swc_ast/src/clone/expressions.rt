@@ -324,7 +324,9 @@ pub(crate) fn copy_seq(n: &SeqExpr) -> Result<SeqExpr, AllocError>
 pub(crate) fn copy_tpl(n: &Tpl) -> Result<Tpl, AllocError>
     ensures { IfOk result (λ r. tpl_tree expr_tree r ≡ tpl_tree expr_tree n.now) }
 {
-    let quasis = copy_quasis(&n.quasis)?;
+    let alloc = *Box::allocator(&n.quasis);
+    let texts = copy_quasis(&n.quasis)?;
+    let quasis = Box::new(alloc, texts)?;
     let exprs = copy_exprs(&n.exprs)?;
     Ok(Tpl {
         span: n.span,

@@ -33,7 +33,7 @@ abbrev pub decreases-attempt_behind : goal.decreases-attempt_behind
 decreases-attempt_behind l = 30 * l.room + 17
 
 abbrev pub decreases-behind_innermost : goal.decreases-behind_innermost
-decreases-behind_innermost l = 30 * l.room + 2
+decreases-behind_innermost l = 30 * l.room + 3
 
 abbrev pub decreases-behind_operators : goal.decreases-behind_operators
 decreases-behind_operators l = 30 * l.room + 3
@@ -105,7 +105,7 @@ abbrev pub decreases-expression : goal.decreases-expression
 decreases-expression l = 30 * l.room + 25
 
 abbrev pub decreases-expression_behind : goal.decreases-expression_behind
-decreases-expression_behind l = 30 * l.room + 1
+decreases-expression_behind l = 30 * l.room + 2
 
 abbrev pub decreases-expression_inside : goal.decreases-expression_inside
 decreases-expression_inside l = 30 * l.room
@@ -190,6 +190,9 @@ decreases-property l = 30 * l.room + 17
 
 abbrev pub decreases-right_operand : goal.decreases-right_operand
 decreases-right_operand l = 30 * l.room + 1
+
+abbrev pub decreases-sequence_behind : goal.decreases-sequence_behind
+decreases-sequence_behind l = 30 * l.room + 1
 
 abbrev pub decreases-spread : goal.decreases-spread
 decreases-spread l = 30 * l.room + 1
