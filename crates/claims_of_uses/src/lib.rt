@@ -11,13 +11,14 @@ ghost use Rattle.swc_ast.specs.declared.Span.{Span};
 ghost use Rattle.swc_ast.specs.declared.errors.PassError.TheVariants.{OutOfMemory};
 ghost use Rattle.dce_rules.specs.Uses.{free_to_go, is_unread};
 ghost use Rattle.dce_uses.specs.Items.{IsUnused};
-ghost use Rattle.dce_uses.specs.Said.{AllSaid, Grows, IsWithin, NoneFree, Says, register_of};
+ghost use Rattle.dce_uses.specs.Said.{AllSaid, Grows, IsWithin, OnlyFree, Says, register_of};
+ghost use Rattle.swc_names.specs.Ids.{ids};
 ghost use Rattle.dce_uses.specs.Tables as tables;
 
 use dce_uses::{Said, Speaks, Uses};
 use std::alloc::{AllocError, Global};
 use stmt_like::StmtLike;
-use swc_ast::{Ident, Module, PassError, Script};
+use swc_ast::{Id, Ident, Module, PassError, Script};
 
 /// `Uses::is_free` in a module.
 pub fn is_free_in(alloc: Global, m: &Module, name: &Ident) -> Result<bool, PassError>
@@ -78,9 +79,9 @@ pub fn tell<T: Speaks>(uses: &mut Uses, items: &[T]) -> Result<(), PassError>
 }
 
 /// `Uses::leaves`
-pub fn leaves(uses: &Uses, said: Said) -> bool
+pub fn leaves(uses: &Uses, said: Said, gone: &[Id]) -> bool
     requires { IsWithin (register_of uses.now) said }
-    ensures { IsTrue result → (t : trees.Tree) → Says (register_of uses.now) said t → NoneFree uses.now t }
+    ensures { IsTrue result → (t : trees.Tree) → Says (register_of uses.now) said t → OnlyFree uses.now (ids gone.now) t }
 {
-    uses.leaves(said)
+    uses.leaves(said, gone)
 }

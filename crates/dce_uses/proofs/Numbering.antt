@@ -227,7 +227,7 @@ other_number x y ns m n apart at_x at_y same =
     false≢true (sym apart ∙ ap (same_name x) (sym is) ∙ same_name_itself x)
 
 -- whether a name has the number of another
-numbered_so : (x y : Name) (ns : List Name) (n : ℕ) → position (same_name y) ns ≡ Some n → is_number ns x n ≡ has_name x (y ∷ [])
+pub numbered_so : (x y : Name) (ns : List Name) (n : ℕ) → position (same_name y) ns ≡ Some n → is_number ns x n ≡ has_name x (y ∷ [])
 numbered_so x y ns n at = by (same_name x y) refl
   where
     other : same_name x y ≡ false → (o : Option ℕ) → position (same_name x) ns ≡ o → unwrap_or (option_map (nat_eq n) o) false ≡ false

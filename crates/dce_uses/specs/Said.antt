@@ -3,6 +3,7 @@ use Rattle.std.specs.Prelude.{Bool, true, false, ◌≡◌, ◌<◌, ◌≤◌, 
 use Rattle.stmt_like.specs.Kept.{IsIn}
 use Rattle.swc_ast.specs.declared.modules.ModuleItem.{ModuleItem}
 use Rattle.swc_ast.specs.Modules.{item_tree}
+use Rattle.swc_ast.specs.Scope.{has_name}
 use Rattle.swc_ast.specs.Tree.{Name, same_name, Tree, label_of, children_of}
 use Rattle.dce_rules.specs.Uses.{declared_in}
 use Rattle.dce_uses.specs.declared.said.Row.{Row}
@@ -77,9 +78,9 @@ pub record TakesBehind (u v : Table) (old new : List Row) : Type 0 where
   pub is : new ≡ old ++ more
   pub takes : Takes u v more
 
--- None of the names that a tree declares is free.
-abbrev pub NoneFree : Uses → Tree → Type 0
-NoneFree u t = (x : Name) → declared_in x t ≡ true → is_free u x ≡ false
+-- None of the names that a tree declares is free but some.
+abbrev pub OnlyFree : Uses → List Name → Tree → Type 0
+OnlyFree u xs t = (x : Name) → declared_in x t ≡ true → is_free u x ≡ true → has_name x xs ≡ true
 
 -- What an item says is noted.
 pub record Adds (u v : Uses) (s : Said) : Type 0 where

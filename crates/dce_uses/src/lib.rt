@@ -3,6 +3,7 @@
 
 mod count;
 mod exports;
+mod gone;
 mod labels;
 mod listed;
 mod place;

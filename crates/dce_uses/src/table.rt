@@ -1,8 +1,9 @@
 //! A table of what a tree says of its names.
-ghost use Rattle.std.specs.Prelude.{◌≡◌, ◌<◌, ◌&&◌, IfOk, OnOk, [], ◌∷◌, length};
+ghost use Rattle.std.specs.Prelude.{◌≡◌, ◌<◌, ◌&&◌, IfOk, IfSome, OnOk, [], ◌∷◌, Some, length, position};
 ghost use Rattle.swc_ast.specs.Parts.{ident_name};
 ghost use Rattle.swc_ast.specs.Scope.{has_name};
-ghost use Rattle.swc_names.specs.Ids.{optional};
+ghost use Rattle.swc_ast.specs.Tree.{same_name};
+ghost use Rattle.swc_names.specs.Ids.{id_name, optional};
 ghost use Rattle.dce_uses.specs.Noted.{is_hiding};
 ghost use Rattle.dce_uses.specs.Said.{AreNumbered, TakesBehind, row_says, rows_say};
 ghost use Rattle.dce_uses.specs.Tables.{IsBlank, IsNumbered, Notes, Numbers, Restores, Touches, fact_at, fact_of, holds};
@@ -11,7 +12,7 @@ ghost use Rattle.dce_uses.specs.declared.tally.Fact as facts;
 use crate::said::Row;
 use crate::tally::Tally;
 use std::alloc::{AllocError, Global};
-use swc_ast::Ident;
+use swc_ast::{Id, Ident};
 use swc_names::Names;
 
 /// The names of a tree, and what was noted of each. Names get their numbers as they are noted.
@@ -56,6 +57,13 @@ impl Table {
         } else {
             Tally::empty()
         }
+    }
+
+    /// The name of a number, if there is one.
+    pub(crate) fn name(&self, number: usize) -> Option<&Id>
+        ensures numbered { IfSome result (λ i. position (same_name (id_name i.now)) self.now.names ≡ Some number) }
+    {
+        self.names.id(number)
     }
 
     /// The number of a name, a new one where it has none.

@@ -2,27 +2,29 @@
 ghost use Rattle.std.specs.Prelude.{◌≡◌, true, false, List, [], IfSome, IfOk, IfErr, OnOk, IsTrue, nat_lt, vec_len, ◌/◌};
 ghost use Rattle.swc_ast.specs.Modules.{item_tree, module_tree, script_tree};
 ghost use Rattle.swc_ast.specs.Parts.{ident_name, list_trees};
-ghost use Rattle.swc_ast.specs.Scope.{default_name};
+ghost use Rattle.swc_ast.specs.Scope.{default_name, has_name};
 ghost use Rattle.swc_ast.specs.Tree as trees;
 ghost use Rattle.swc_ast.specs.Tree.{same_name, node, ε, ◌⊳◌};
 ghost use Rattle.swc_ast.specs.declared.Span.{Span};
 ghost use Rattle.swc_ast.specs.declared.errors.PassError.TheVariants.{OutOfMemory};
+ghost use Rattle.swc_names.specs.Ids.{ids};
 ghost use Rattle.tree_visit.specs.Kinds.{kind_label};
 ghost use Rattle.tree_visit.specs.Nodes.{node_tree, children_forest};
 ghost use Rattle.dce_uses.specs.Tables as tables;
 ghost use Rattle.dce_uses.specs.Items.{IsUnused, NotesItem, NotesTree};
-ghost use Rattle.dce_uses.specs.Said.{Adds, AllSaid, AreNumbered, Grows, IsWithin, NoneFree, Says, register_of, row_says, rows_of};
+ghost use Rattle.dce_uses.specs.Said.{Adds, AllSaid, AreNumbered, Grows, IsWithin, OnlyFree, Says, is_number, register_of, row_says, rows_of};
 ghost use Rattle.dce_uses.specs.Tables.{names_of};
 ghost use Rattle.dce_uses.specs.declared.tally.Fact.TheVariants as fact;
 
 use crate::exports::is_nameless;
+use crate::gone::is_one_of;
 use crate::place::Place;
 use crate::said::{Row, Said, Speaks};
 use crate::table::Table;
 use crate::tally::Fact;
 use std::alloc::{AllocError, Global};
 use stmt_like::StmtLike;
-use swc_ast::{Ident, Module, PassError, Script, SyntaxContext};
+use swc_ast::{Id, Ident, Module, PassError, Script, SyntaxContext};
 use swc_names::open_item;
 use tree_visit::{Node, Opened};
 
@@ -227,19 +229,56 @@ impl Uses {
         }
     }
 
-    /// Whether the tree shaker has nothing to do at an item that it left once, by what the item says: no name that it declares
-    /// is free, and each that it writes is read, or declared nowhere.
-    pub fn leaves(&self, said: Said) -> bool
+    /// Whether a number is that of one of some names.
+    #[tactic(auto, using(crate::proofs::Leaving::one_of))]
+    fn is_among(&self, number: usize, names: &[Id]) -> bool
+        ensures { IsTrue result → (x : trees.Name) → is_number (names_of self.now) x number ≡ true → has_name x (ids names.now) ≡ true }
+    {
+        match self.table.name(number) {
+            Some(name) => is_one_of(name, names),
+            None => false,
+        }
+    }
+
+    /// Whether a row tells of no declaration of a name that is free, those that are `gone` aside, and of no plain assignment that
+    /// goes.
+    fn passes_row(&self, row: &Row, gone: &[Id]) -> bool
+        ensures { IsTrue result → (x : trees.Name) → row_says (names_of self.now) row.now fact.Declared x ≡ true → tables.is_free self.now x ≡ true → has_name x (ids gone.now) ≡ true }
+    {
+        self.leaves_row(row) || self.is_among(row.number, gone)
+    }
+
+    /// Whether the tree shaker has nothing to do at an item that it left once, where names went that it declares and that are
+    /// `gone`, by what the item says: no other name that it declares is free, and each that it writes is read, or declared
+    /// nowhere.
+    pub fn leaves(&self, said: Said, gone: &[Id]) -> bool
         requires { IsWithin (register_of self.now) said }
-        ensures { IsTrue result → (t : trees.Tree) → Says (register_of self.now) said t → NoneFree self.now t }
+        ensures { IsTrue result → (t : trees.Tree) → Says (register_of self.now) said t → OnlyFree self.now (ids gone.now) t }
     {
         let mut left: &[Row] = &self.rows[said.start..said.end];
         while let [row, rest @ ..] = left {
-            if !self.leaves_row(row) {
+            if !self.passes_row(row, gone) {
                 return false;
             }
             left = rest;
         }
         true
+    }
+
+    /// The names at which the tree shaker may have something to do in an item, by what the item says. Fails where memory is
+    /// refused.
+    pub fn touched(&self, alloc: Global, said: Said) -> Result<Vec<Id>, AllocError>
+        requires { IsWithin (register_of self.now) said }
+    {
+        let mut touched = Vec::new(alloc);
+        for row in &self.rows[said.start..said.end] {
+            if self.leaves_row(row) {
+                continue;
+            }
+            if let Some(name) = self.table.name(row.number) {
+                touched.push(name.clone()?)?;
+            }
+        }
+        Ok(touched)
     }
 }

@@ -1,7 +1,6 @@
 -- Lists of units.
 use Rattle.std.proofs.Common.{◌≡◌, ℕ, Bool, true, false, List, [], ◌∷◌, ◌++◌, ◌||◌, refl, sym, ap, ap₂, subst, ◌∙◌}
 use Rattle.std.specs.Prelude.{Option, Some, None, IfSome}
-use Rattle.std.proofs.lemmas.Bool.{false≢true}
 use Rattle.std.specs.List.{All}
 use Rattle.std.proofs.lemmas.List.{map-append, append_assoc}
 use Rattle.std.proofs.lemmas.List.Elements.{All-nil, All-cons, All-head, All-tail}
@@ -51,7 +50,7 @@ kept_each P of_made {xs} {ys} kept h = all_in P ys (all_kept P of_made kept (eac
 -- what is known of units
 
 pub unknown_known : (x : ModuleItem) → Known (unknown x)
-unknown_known x = (tt, (tt, λ is. absurd (false≢true is)))
+unknown_known x = (tt, (tt, tt))
 
 pub known_kept : (us vs : List Unit) → Kept (λ s. unknown (items.Stmt s)) us vs → AllKnown us → AllKnown vs
 known_kept us vs kept = kept_each Known (λ s. unknown_known (items.Stmt s)) kept

@@ -1,22 +1,25 @@
 //! An item of a module, and what is known of it.
-ghost use Rattle.std.specs.Prelude.{◌≡◌, IfOk, OnOk, IsTrue, None, Some, refl};
+ghost use Rattle.std.specs.Prelude.{◌≡◌, true, false, IfOk, OnOk, IsTrue, None, Some, refl};
 ghost use Rattle.swc_ast.specs.Modules.{item_tree};
+ghost use Rattle.swc_ast.specs.Scope.{has_name};
+ghost use Rattle.swc_ast.specs.Tree.{Name};
 ghost use Rattle.swc_ast.specs.declared.modules.ModuleItem.TheVariants as items;
 ghost use Rattle.swc_utils.specs.Globals.{unresolved};
+ghost use Rattle.swc_names.specs.Ids.{ids};
 ghost use Rattle.tree_walk.specs.Walks.{Made};
 ghost use Rattle.swc_expr.specs.Simplifies.{simplify_pass};
 ghost use Rattle.branch_rules.specs.Removes.{remove_pass};
 ghost use Rattle.dce_rules.specs.Shakes.{shake_pass};
 ghost use Rattle.dce_code.specs.Knowledge.{shaker};
 ghost use Rattle.dce_uses.specs.Items.{IsUnused};
-ghost use Rattle.dce_uses.specs.Said.{Grows, NoneFree, Register, register_of};
+ghost use Rattle.dce_uses.specs.Said.{Grows, Register, register_of};
 ghost use Rattle.round_units.specs.Cleared.{ItemCleared};
-ghost use Rattle.round_units.specs.Rests.{Known, SaidOf, unknown};
+ghost use Rattle.round_units.specs.Rests.{AllGo, Known, Rests, SaidOf, unknown};
 
 use dce_uses::{Said, Speaks, Uses};
 use std::alloc::AllocError;
 use stmt_like::StmtLike;
-use swc_ast::{ModuleDecl, ModuleItem, Stmt, SyntaxContext};
+use swc_ast::{DUMMY_SP, Id, Ident, ModuleDecl, ModuleItem, Stmt, SyntaxContext};
 use swc_branch::BranchRules;
 use swc_dce::ShakeRules;
 use swc_expr::ExprRules;
@@ -30,8 +33,9 @@ pub struct Unit {
     simplified: Option<SyntaxContext>,
     /// The same of a remover of dead branches.
     removed: Option<SyntaxContext>,
-    /// Whether the tree shaker leaves it as long as none of the names that it declares goes.
-    settled: bool,
+    /// The names that it declares and beside which the tree shaker leaves it: as long as no other goes that it declares. Nothing
+    /// where it may not leave it.
+    settled: Option<Vec<Id>>,
     /// What it says of names.
     said: Option<Said>,
 }
@@ -46,6 +50,32 @@ fn is_known(known: Option<SyntaxContext>, context: SyntaxContext) -> bool
     }
 }
 
+/// How many names are kept beside which an item was left. Each is compared with each that it declares and that goes.
+const MOST_GONE: usize = 16;
+
+/// Whether names may go beside which an item was left: there are none, or imports stay.
+fn has_place(gone: &[Id], drops_imports: bool) -> bool
+    ensures { IsTrue result → (x : Name) → has_name x (ids gone.now) ≡ true → drops_imports ≡ false }
+{
+    gone.is_empty() || !drops_imports
+}
+
+/// Those of some names that go.
+fn going(rules: &ShakeRules<'_>, names: Vec<Id>) -> Result<Vec<Id>, AllocError>
+    requires { rules.now.known.drops_imports ≡ false }
+    ensures { IfOk result (λ r. AllGo (shaker rules.now.known) (ids r.items)) }
+{
+    let mut going = Vec::new(rules.alloc);
+    for (sym, ctxt) in names {
+        let span = DUMMY_SP;
+        let name = Ident { span, sym, ctxt };
+        if rules.known.is_free(&name) {
+            going.push((name.sym, name.ctxt))?;
+        }
+    }
+    Ok(going)
+}
+
 impl Unit {
     /// An item of which nothing is known.
     pub(crate) fn new(item: ModuleItem) -> Unit
@@ -55,7 +85,7 @@ impl Unit {
             item,
             simplified: None,
             removed: None,
-            settled: false,
+            settled: None,
             said: None,
         }
     }
@@ -102,7 +132,7 @@ impl Unit {
         if changed {
             self.simplified = None;
             self.removed = None;
-            self.settled = false;
+            self.settled = None;
             self.said = None;
         }
         Ok(changed)
@@ -166,16 +196,40 @@ impl Unit {
         Ok(simplified | removed)
     }
 
-    /// Whether the tree shaker left it, and nothing is to do at it now, by what it says of names.
-    fn is_left(&self, uses: &Uses) -> bool
-        requires { SaidOf (register_of uses.now) self.now }
-        ensures settled { IsTrue result → IsTrue self.now.settled }
-        ensures free { IsTrue result → NoneFree uses.now (item_tree self.now.item) }
+    /// Whether the tree shaker leaves it, by what is known and by what it says of names.
+    fn is_left(&self, rules: &ShakeRules<'_>) -> bool
+        requires known { Known self.now }
+        requires said { SaidOf (register_of rules.now.known.uses.now) self.now }
+        ensures { IsTrue result → Rests (shake_pass (shaker rules.now.known)) (item_tree self.now.item) }
     {
-        match self.said {
+        match &self.settled {
             None => false,
-            Some(said) => self.settled && uses.leaves(said),
+            Some(gone) => match self.said {
+                None => false,
+                Some(said) => {
+                    has_place(gone, rules.known.drops_imports)
+                        && rules.known.uses.leaves(said, gone)
+                }
+            },
         }
+    }
+
+    /// The names that it declares and that go, where a tree shaker left it; none where imports go, or where there are many.
+    fn gone(&self, rules: &ShakeRules<'_>) -> Result<Vec<Id>, AllocError>
+        requires { SaidOf (register_of rules.now.known.uses.now) self.now }
+        ensures { IfOk result (λ r. AllGo (shaker rules.now.known) (ids r.items)) }
+    {
+        let Some(said) = self.said else {
+            return Ok(Vec::new(rules.alloc));
+        };
+        if rules.known.drops_imports {
+            return Ok(Vec::new(rules.alloc));
+        }
+        let touched = rules.known.uses.touched(rules.alloc, said)?;
+        if touched.len() > MOST_GONE {
+            return Ok(Vec::new(rules.alloc));
+        }
+        going(rules, touched)
     }
 
     /// Walks the item by the tree shaker, unless that is known to leave it.
@@ -186,12 +240,12 @@ impl Unit {
         ensures known { OnOk result (Known self.new) }
         ensures said { OnOk result ((g : Register) → SaidOf g self.old → SaidOf g self.new) }
     {
-        if self.is_left(rules.known.uses) {
+        if self.is_left(rules) {
             return Ok(false);
         }
         let changed = self.walk(rules)?;
         if !changed {
-            self.settled = true;
+            self.settled = Some(self.gone(rules)?);
         }
         Ok(changed)
     }

@@ -1,6 +1,7 @@
-use Rattle.std.specs.Prelude.{IfSome, IsTrue}
+use Rattle.std.specs.Prelude.{IfSome}
 use Rattle.swc_ast.specs.Marks.{context_number}
 use Rattle.swc_ast.specs.Modules.{item_tree}
+use Rattle.swc_names.specs.Ids.{ids}
 use Rattle.swc_expr.specs.Simplifies.{simplify_pass}
 use Rattle.branch_rules.specs.Removes.{remove_pass}
 use Rattle.dce_uses.specs.Said.{Says}
@@ -11,7 +12,7 @@ use Rattle.round_units.proofs.unit.Unit.walk.Goals as goal
 pub returns-else-changed-clause-known : goal.returns-else-changed-clause-known
 returns-else-changed-clause-known g c =
     let u = c.args.self.now in
-    known_then (λ t. IfSome u.simplified (λ k. Rests (simplify_pass (context_number k)) t) × (IfSome u.removed (λ k. Rests (remove_pass (context_number k)) t) × (IsTrue u.settled → Settles t))) c.in_ok-changed.changed (item_tree u.item) (item_tree c.walk_module_item.new.item) c.if-changed.false c.in_ok-changed.ensures c.requires.known
+    known_then (λ t. IfSome u.simplified (λ k. Rests (simplify_pass (context_number k)) t) × (IfSome u.removed (λ k. Rests (remove_pass (context_number k)) t) × IfSome u.settled (λ xs. Settles (ids xs.items) t))) c.in_ok-changed.changed (item_tree u.item) (item_tree c.walk_module_item.new.item) c.if-changed.false c.in_ok-changed.ensures c.requires.known
 
 pub returns-else-changed-clause-said : goal.returns-else-changed-clause-said
 returns-else-changed-clause-said g c = λ k h.
