@@ -87,7 +87,9 @@ fn add_vars<'a>(names: &mut Vec<Name<'a>>, n: Node<'a>) -> Result<(), AllocError
     add_optional(names, own_var(opened.kind))
 }
 
+/// The same by a call: in `add_names` it would make the frame larger that `var`s need at each level.
 #[cycle(names)]
+#[inline(never)]
 #[tactic(auto, using(crate::proofs::Gathered::specifiers, crate::proofs::Gathered::no_import, crate::proofs::Gathered::case_below, crate::proofs::Gathered::no_case, crate::proofs::Gathered::case_vars_below, crate::proofs::Gathered::no_case_vars, crate::proofs::Gathered::declarator, crate::proofs::Gathered::param, crate::proofs::Gathered::imported))]
 fn add_names_of<'a>(names: &mut Vec<Name<'a>>, n: Node<'a>, part: Part) -> Result<(), AllocError>
     ensures { OnOk result (tree_names_of names.new.items ≡ tree_names_of names.old.items ++ tree_names part (node_tree n.entry)) }
