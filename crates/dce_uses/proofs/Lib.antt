@@ -1,5 +1,6 @@
 pub mod Extending
-mod Adding
+pub mod Adding
+mod Tallies
 mod Counting
 mod Numbering
 mod Retaining

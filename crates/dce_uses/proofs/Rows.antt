@@ -74,6 +74,10 @@ one_behind u v w old rs qs r pushed h go = record { more = h.more ++ r ∷ []; i
 pub none_behind : (u v w : Table) (old rs : List Row) → (h : TakingBehind u v old rs) → (Taking u v h.more → Taking u w h.more) → TakingBehind u w old rs
 none_behind u v w old rs h go = record { more = h.more; is = h.is; taking = go h.taking }
 
+-- at first all is still noted
+pub takes_none : (u : Table) → IsNumbered u → Taking u u []
+takes_none u k = record { names = refl; numbered = k; numbers = tt; facts = λ f x. or_false (fact_of u f x) }
+
 pub none_taken : (u : Table) (old : List Row) → Taking u u [] → TakingBehind u u old old
 none_taken u old h = record { more = []; is = sym (append-nil old); taking = h }
 
@@ -158,26 +162,26 @@ taken u v p w n m t e r rs qs names tallies touched low len h none numbered tall
 -- nothing was noted in a tally without facts
 pub blank_tally : (t : Tally) → is_blank t ≡ true → (f : Fact) → holds t f ≡ false
 blank_tally t is f =
-    let a = or_parts ((((t.uses || t.writes) || t.is_abroad) || t.is_declared) || t.is_held) t.is_hidden (not-true _ is) in
-    let b = or_parts (((t.uses || t.writes) || t.is_abroad) || t.is_declared) t.is_held a.0 in
-    let c = or_parts ((t.uses || t.writes) || t.is_abroad) t.is_declared b.0 in
-    let d = or_parts (t.uses || t.writes) t.is_abroad c.0 in
-    let e = or_parts t.uses t.writes d.0 in
+    let a = or_parts ((((holds t fact.Used || holds t fact.Written) || holds t fact.Abroad) || holds t fact.Declared) || holds t fact.Held) (holds t fact.Hidden) (not-true _ is) in
+    let b = or_parts (((holds t fact.Used || holds t fact.Written) || holds t fact.Abroad) || holds t fact.Declared) (holds t fact.Held) a.0 in
+    let c = or_parts ((holds t fact.Used || holds t fact.Written) || holds t fact.Abroad) (holds t fact.Declared) b.0 in
+    let d = or_parts (holds t fact.Used || holds t fact.Written) (holds t fact.Abroad) c.0 in
+    let e = or_parts (holds t fact.Used) (holds t fact.Written) d.0 in
     by f e.0 e.1 d.1 c.1 b.1 a.1
   where
-    by : (f : Fact) → t.uses ≡ false → t.writes ≡ false → t.is_abroad ≡ false → t.is_declared ≡ false → t.is_held ≡ false → t.is_hidden ≡ false → holds t f ≡ false
-    by fact.Used uses writes abroad declared held hidden = uses
-    by fact.Written uses writes abroad declared held hidden = writes
-    by fact.Abroad uses writes abroad declared held hidden = abroad
-    by fact.Declared uses writes abroad declared held hidden = declared
-    by fact.Held uses writes abroad declared held hidden = held
-    by fact.Hidden uses writes abroad declared held hidden = hidden
+    by : (f : Fact) → holds t fact.Used ≡ false → holds t fact.Written ≡ false → holds t fact.Abroad ≡ false → holds t fact.Declared ≡ false → holds t fact.Held ≡ false → holds t fact.Hidden ≡ false → holds t f ≡ false
+    by fact.Used used written abroad declared held hidden = used
+    by fact.Written used written abroad declared held hidden = written
+    by fact.Abroad used written abroad declared held hidden = abroad
+    by fact.Declared used written abroad declared held hidden = declared
+    by fact.Held used written abroad declared held hidden = held
+    by fact.Hidden used written abroad declared held hidden = hidden
 
 -- something was noted in any other
 pub some_fact : (t : Tally) → is_blank t ≡ false → (f : Fact) × (holds t f ≡ true)
-some_fact t is = by t.uses refl t.writes refl t.is_abroad refl t.is_declared refl t.is_held refl t.is_hidden refl
+some_fact t is = by (holds t fact.Used) refl (holds t fact.Written) refl (holds t fact.Abroad) refl (holds t fact.Declared) refl (holds t fact.Held) refl (holds t fact.Hidden) refl
   where
-    by : (a : Bool) → t.uses ≡ a → (b : Bool) → t.writes ≡ b → (c : Bool) → t.is_abroad ≡ c → (d : Bool) → t.is_declared ≡ d → (e : Bool) → t.is_held ≡ e → (g : Bool) → t.is_hidden ≡ g → (f : Fact) × (holds t f ≡ true)
+    by : (a : Bool) → holds t fact.Used ≡ a → (b : Bool) → holds t fact.Written ≡ b → (c : Bool) → holds t fact.Abroad ≡ c → (d : Bool) → holds t fact.Declared ≡ d → (e : Bool) → holds t fact.Held ≡ e → (g : Bool) → holds t fact.Hidden ≡ g → (f : Fact) × (holds t f ≡ true)
     by true p b q c r d s e v g w = (fact.Used, p)
     by false p true q c r d s e v g w = (fact.Written, q)
     by false p false q true r d s e v g w = (fact.Abroad, r)

@@ -1,5 +1,5 @@
 -- What items say of names that go by numbers.
-use Rattle.std.specs.Prelude.{Bool, true, false, ◌≡◌, ◌<◌, ◌≤◌, ◌&&◌, ◌||◌, ⊤, ℕ, nat_eq, List, [], ◌∷◌, ◌++◌, length, slice_range, Option, IfSome, option_map, position, unwrap_or}
+use Rattle.std.specs.Prelude.{Bool, true, false, not, ◌≡◌, ◌<◌, ◌≤◌, ◌&&◌, ◌||◌, ⊤, ℕ, nat_eq, List, [], ◌∷◌, ◌++◌, length, slice_range, Option, IfSome, option_map, position, unwrap_or}
 use Rattle.stmt_like.specs.Kept.{IsIn}
 use Rattle.swc_ast.specs.declared.modules.ModuleItem.{ModuleItem}
 use Rattle.swc_ast.specs.Modules.{item_tree}
@@ -10,10 +10,11 @@ use Rattle.dce_uses.specs.declared.said.Row.{Row}
 use Rattle.dce_uses.specs.declared.said.Said.{Said}
 use Rattle.dce_uses.specs.declared.table.Table.{Table}
 use Rattle.dce_uses.specs.declared.tally.Fact.{Fact}
+use Rattle.dce_uses.specs.declared.tally.Fact.TheVariants as fact
 use Rattle.dce_uses.specs.declared.uses.Uses.{Uses}
 use Rattle.dce_uses.specs.Exports.{is_nameless_export}
 use Rattle.dce_uses.specs.Items.{item_says}
-use Rattle.dce_uses.specs.Tables.{Extends, Notes, fact_of, holds, is_free, names_of}
+use Rattle.dce_uses.specs.Tables.{Extends, Notes, fact_at, fact_of, holds, is_free, names_of}
 
 -- whether a name has a number among names
 abbrev pub is_number : List Name → Name → ℕ → Bool
@@ -27,6 +28,10 @@ row_says ns r f x = holds r.tally f && is_number ns x r.number
 abbrev pub rows_say : List Name → List Row → Fact → Name → Bool
 rows_say ns [] f x = false
 rows_say ns (r ∷ rs) f x = row_says ns r f x || rows_say ns rs f x
+
+-- whether a row tells of a declaration of a name that is neither read nor written, nor used without being named
+abbrev pub frees : Table → Row → Bool
+frees u r = holds r.tally fact.Declared && not ((fact_at u.tallies.items fact.Used r.number || fact_at u.tallies.items fact.Written r.number) || fact_at u.tallies.items fact.Hidden r.number)
 
 -- Each row is that of a name.
 abbrev pub AreNumbered : List Name → List Row → Type 0

@@ -1,5 +1,6 @@
 -- What a table tells of names.
 use Rattle.std.specs.Prelude.{Bool, true, false, not, ◌≡◌, ◌&&◌, ◌||◌, if◌then◌else◌, ℕ, ◌<◌, ◌≤◌, nat_eq, List, [], ◌∷◌, ◌++◌, length, Option, Some, option_map, option_and_then, position, slice_get, unwrap_or}
+use Rattle.std.specs.Int.{bit_at}
 use Rattle.swc_ast.specs.Tree.{Name, same_name, Tree}
 use Rattle.swc_ast.specs.Scope.{has_name, default_name}
 use Rattle.dce_rules.specs.Uses.{free_to_go, is_unread}
@@ -10,14 +11,22 @@ use Rattle.dce_uses.specs.declared.table.Table.{Table}
 use Rattle.dce_uses.specs.declared.uses.Uses.{Uses}
 use Rattle.dce_uses.specs.Noted.{noted, at_top, is_counted}
 
+-- the place of a fact's bit
+abbrev pub place_of : Fact → ℕ
+place_of fact.Used = 0
+place_of fact.Written = 1
+place_of fact.Abroad = 2
+place_of fact.Declared = 3
+place_of fact.Held = 4
+place_of fact.Hidden = 5
+
+-- whether two facts are the same
+abbrev pub is_same : Fact → Fact → Bool
+is_same f g = nat_eq (place_of f) (place_of g)
+
 -- whether a fact was noted
 abbrev pub holds : Tally → Fact → Bool
-holds t fact.Used = t.uses
-holds t fact.Written = t.writes
-holds t fact.Abroad = t.is_abroad
-holds t fact.Declared = t.is_declared
-holds t fact.Held = t.is_held
-holds t fact.Hidden = t.is_hidden
+holds t f = nat_eq (bit_at t.facts (place_of f)) 1
 
 -- what was noted of a name, if it has a number
 abbrev pub tally_of : Table → Name → Option Tally
@@ -29,7 +38,7 @@ fact_of u f x = unwrap_or (option_map (λ t. holds t f) (tally_of u x)) false
 
 -- whether nothing was noted
 abbrev pub is_blank : Tally → Bool
-is_blank t = not (((((t.uses || t.writes) || t.is_abroad) || t.is_declared) || t.is_held) || t.is_hidden)
+is_blank t = not (((((holds t fact.Used || holds t fact.Written) || holds t fact.Abroad) || holds t fact.Declared) || holds t fact.Held) || holds t fact.Hidden)
 
 -- what was noted at a number, nothing where it has no tally
 abbrev pub fact_at : List Tally → Fact → ℕ → Bool

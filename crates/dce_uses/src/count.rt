@@ -19,7 +19,7 @@ use crate::place::Place;
 use crate::scans::params_of;
 use crate::seen::Seen;
 use crate::table::Table;
-use crate::tally::Tally;
+use crate::tally::{Fact, Tally};
 use std::alloc::AllocError;
 use swc_ast::Ident;
 use tree_leaves::{Leaf, leaf_of};
@@ -30,12 +30,10 @@ use tree_visit::{Children, Kind, Node, Opened};
 fn naming(kind: Kind<'_>, place: Place) -> Tally
     ensures { (f : facts.Fact) → holds result f ≡ noted.naming f place (kind_label kind.entry) }
 {
-    Tally {
-        uses: is_read(kind),
-        writes: is_written(kind),
-        is_abroad: !place.in_declaration,
-        ..Tally::empty()
-    }
+    Tally::empty()
+        .with(Fact::Used, is_read(kind))
+        .with(Fact::Written, is_written(kind))
+        .with(Fact::Abroad, !place.in_declaration)
 }
 
 /// What a node says of the name that it declares.
@@ -43,11 +41,9 @@ fn naming(kind: Kind<'_>, place: Place) -> Tally
 fn declaring(kind: Kind<'_>, place: Place) -> Tally
     ensures { (f : facts.Fact) → holds result f ≡ noted.declaring f place (kind_label kind.entry) }
 {
-    Tally {
-        is_declared: true,
-        is_held: !place.lets_go(kind),
-        ..Tally::empty()
-    }
+    Tally::empty()
+        .with(Fact::Declared, true)
+        .with(Fact::Held, !place.lets_go(kind))
 }
 
 impl Table {

@@ -9,7 +9,7 @@ use swc_ast::ModuleItem;
 /// What was noted of a name, which goes by its number.
 #[derive(Clone, Copy)]
 pub(crate) struct Row {
-    pub(crate) number: usize,
+    pub(crate) number: u32,
     pub(crate) tally: Tally,
 }
 
@@ -17,8 +17,8 @@ pub(crate) struct Row {
 /// without a name.
 #[derive(Clone, Copy)]
 pub struct Said {
-    pub(crate) start: usize,
-    pub(crate) end: usize,
+    pub(crate) start: u32,
+    pub(crate) end: u32,
     pub(crate) exports_default: bool,
 }
 

@@ -10,7 +10,7 @@ ghost use Rattle.dce_uses.specs.Tables.{IsBlank, IsNumbered, Notes, Numbers, Res
 ghost use Rattle.dce_uses.specs.declared.tally.Fact as facts;
 
 use crate::said::Row;
-use crate::tally::Tally;
+use crate::tally::{Fact, Tally};
 use std::alloc::{AllocError, Global};
 use swc_ast::{Id, Ident};
 use swc_names::Names;
@@ -110,7 +110,7 @@ impl Table {
         ensures { OnOk result (Notes self.old self.new (λ f x. is_hiding f && has_name x (optional name.entry))) }
     {
         match name {
-            Some(name) => self.add_tally(name, Tally::hidden()),
+            Some(name) => self.add_tally(name, Tally::empty().with(Fact::Hidden, true)),
             None => Ok(()),
         }
     }
@@ -149,7 +149,13 @@ impl Table {
             if number < self.tallies.len() {
                 let tally = self.tallies[number];
                 if !tally.is_empty() {
-                    rows.push(Row { number, tally })?;
+                    let Ok(short) = u32::try_from(number) else {
+                        return Err(AllocError);
+                    };
+                    rows.push(Row {
+                        number: short,
+                        tally,
+                    })?;
                     self.tallies[number] = Tally::empty();
                 }
             }
@@ -163,9 +169,10 @@ impl Table {
         ensures notes { OnOk result (Notes self.old self.new (row_says self.old.names row.now)) }
         ensures names { OnOk result (self.new.names ≡ self.old.names) }
     {
-        self.touch(row.number)?;
-        if row.number < self.tallies.len() {
-            self.tallies[row.number] = self.tallies[row.number].and(row.tally);
+        let number = row.number as usize;
+        self.touch(number)?;
+        if number < self.tallies.len() {
+            self.tallies[number] = self.tallies[number].and(row.tally);
         }
         Ok(())
     }

@@ -1,7 +1,7 @@
 //! What is noted of one name.
-ghost use Rattle.std.specs.Prelude.{◌≡◌, ◌||◌, false, if◌then◌else◌};
-ghost use Rattle.dce_uses.specs.Tables.{holds, is_blank};
-ghost use Rattle.dce_uses.specs.Noted.{is_counted, is_hiding};
+ghost use Rattle.std.specs.Prelude.{◌≡◌, ◌&&◌, ◌||◌, false, if◌then◌else◌};
+ghost use Rattle.dce_uses.specs.Tables.{holds, is_blank, is_same, place_of};
+ghost use Rattle.dce_uses.specs.Noted.{is_counted};
 ghost use Rattle.dce_uses.specs.declared.tally.Fact as facts;
 
 /// A fact that a tree may tell of a name.
@@ -21,15 +21,30 @@ pub(crate) enum Fact {
     Hidden,
 }
 
-/// What was noted of a name. All that is asked of uses and writes is whether there are any.
+impl Fact {
+    /// The place of its bit.
+    #[inline(always)]
+    fn place(self) -> u32
+        ensures { result ≡ place_of self }
+    {
+        match self {
+            Fact::Used => 0,
+            Fact::Written => 1,
+            Fact::Abroad => 2,
+            Fact::Declared => 3,
+            Fact::Held => 4,
+            Fact::Hidden => 5,
+        }
+    }
+}
+
+/// The bits of uses and writes.
+const COUNTED: u8 = 0b11;
+
+/// What was noted of a name: a bit for each fact. All that is asked of uses and writes is whether there are any.
 #[derive(Clone, Copy)]
 pub(crate) struct Tally {
-    pub(crate) uses: bool,
-    pub(crate) writes: bool,
-    pub(crate) is_abroad: bool,
-    pub(crate) is_declared: bool,
-    pub(crate) is_held: bool,
-    pub(crate) is_hidden: bool,
+    facts: u8,
 }
 
 impl Tally {
@@ -38,14 +53,7 @@ impl Tally {
     pub(crate) fn empty() -> Tally
         ensures { (f : facts.Fact) → holds result f ≡ false }
     {
-        Tally {
-            uses: false,
-            writes: false,
-            is_abroad: false,
-            is_declared: false,
-            is_held: false,
-            is_hidden: false,
-        }
+        Tally { facts: 0 }
     }
 
     /// Whether a fact was noted.
@@ -53,24 +61,16 @@ impl Tally {
     pub(crate) fn has(self, fact: Fact) -> bool
         ensures { result ≡ holds self fact }
     {
-        match fact {
-            Fact::Used => self.uses,
-            Fact::Written => self.writes,
-            Fact::Abroad => self.is_abroad,
-            Fact::Declared => self.is_declared,
-            Fact::Held => self.is_held,
-            Fact::Hidden => self.is_hidden,
-        }
+        (self.facts >> fact.place()) & 1 == 1
     }
 
-    /// That a name is used without being named.
+    /// The same with a fact, if that is so.
     #[inline(always)]
-    pub(crate) fn hidden() -> Tally
-        ensures { (f : facts.Fact) → holds result f ≡ is_hiding f }
+    pub(crate) fn with(self, fact: Fact, is_so: bool) -> Tally
+        ensures { (f : facts.Fact) → holds result f ≡ (holds self f || is_same fact f && is_so) }
     {
         Tally {
-            is_hidden: true,
-            ..Tally::empty()
+            facts: self.facts | u8::from(is_so) << fact.place(),
         }
     }
 
@@ -80,12 +80,7 @@ impl Tally {
         ensures { (f : facts.Fact) → holds result f ≡ (holds self f || holds other f) }
     {
         Tally {
-            uses: self.uses || other.uses,
-            writes: self.writes || other.writes,
-            is_abroad: self.is_abroad || other.is_abroad,
-            is_declared: self.is_declared || other.is_declared,
-            is_held: self.is_held || other.is_held,
-            is_hidden: self.is_hidden || other.is_hidden,
+            facts: self.facts | other.facts,
         }
     }
 
@@ -94,12 +89,12 @@ impl Tally {
     pub(crate) fn is_empty(self) -> bool
         ensures { result ≡ is_blank self }
     {
-        !(self.uses
-            || self.writes
-            || self.is_abroad
-            || self.is_declared
-            || self.is_held
-            || self.is_hidden)
+        !(self.has(Fact::Used)
+            || self.has(Fact::Written)
+            || self.has(Fact::Abroad)
+            || self.has(Fact::Declared)
+            || self.has(Fact::Held)
+            || self.has(Fact::Hidden))
     }
 
     /// The same with the uses and writes of another.
@@ -107,9 +102,8 @@ impl Tally {
     pub(crate) fn counted_as(self, other: Tally) -> Tally
         ensures { (f : facts.Fact) → holds result f ≡ (if is_counted f then holds other f else holds self f) }
     {
-        let mut tally = self;
-        tally.uses = other.uses;
-        tally.writes = other.writes;
-        tally
+        Tally {
+            facts: self.facts & !COUNTED | other.facts & COUNTED,
+        }
     }
 }

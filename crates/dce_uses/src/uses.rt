@@ -1,5 +1,5 @@
 //! How the names of a tree are used.
-ghost use Rattle.std.specs.Prelude.{◌≡◌, true, false, List, [], IfSome, IfOk, IfErr, OnOk, IsTrue, nat_lt, vec_len, ◌/◌};
+ghost use Rattle.std.specs.Prelude.{◌≡◌, true, false, List, [], IfSome, IfOk, IfErr, OnOk, IsTrue, length, nat_lt, vec_len, ◌/◌, ◌≤◌};
 ghost use Rattle.swc_ast.specs.Modules.{item_tree, module_tree, script_tree};
 ghost use Rattle.swc_ast.specs.Parts.{ident_name, list_trees};
 ghost use Rattle.swc_ast.specs.Scope.{default_name, has_name};
@@ -12,7 +12,7 @@ ghost use Rattle.tree_visit.specs.Kinds.{kind_label};
 ghost use Rattle.tree_visit.specs.Nodes.{node_tree, children_forest};
 ghost use Rattle.dce_uses.specs.Tables as tables;
 ghost use Rattle.dce_uses.specs.Items.{IsUnused, NotesItem, NotesTree};
-ghost use Rattle.dce_uses.specs.Said.{Adds, AllSaid, AreNumbered, Grows, IsWithin, OnlyFree, Says, is_number, register_of, row_says, rows_of};
+ghost use Rattle.dce_uses.specs.Said.{Adds, AllSaid, AreNumbered, Grows, IsWithin, OnlyFree, Says, frees, is_number, register_of, row_says, rows_of};
 ghost use Rattle.dce_uses.specs.Tables.{names_of};
 ghost use Rattle.dce_uses.specs.declared.tally.Fact.TheVariants as fact;
 
@@ -44,6 +44,16 @@ pub fn is_default(name: &Ident) -> bool
     ensures { result ≡ same_name (ident_name name.now) default_name }
 {
     name.ctxt == SyntaxContext::empty() && name.sym.as_str() == "*default*"
+}
+
+/// The place behind rows. Fails if there are more than a `u32` counts.
+fn place(rows: &Vec<Row>) -> Result<u32, AllocError>
+    ensures { IfOk result (λ n. n ≡ vec_len rows.now) }
+{
+    match u32::try_from(rows.len()) {
+        Ok(place) => Ok(place),
+        Err(_) => Err(AllocError),
+    }
 }
 
 impl Uses {
@@ -97,11 +107,12 @@ impl Uses {
         self.note_item(open_item(item))?;
         let exports_default = self.exports_default;
         self.exports_default = false;
-        let start = self.rows.len();
+        let start = place(&self.rows)?;
         self.table.take_rows(&mut self.rows)?;
+        let end = place(&self.rows)?;
         Ok(Said {
             start,
-            end: self.rows.len(),
+            end,
             exports_default,
         })
     }
@@ -113,7 +124,7 @@ impl Uses {
         ensures adds { OnOk result (Adds self.old self.new said) }
         ensures rows { self.new.rows ≡ self.old.rows }
     {
-        let rows = &self.rows[said.start..said.end];
+        let rows = &self.rows[said.start as usize..said.end as usize];
         self.told = self.told.saturating_add(rows.len());
         self.table.add_rows(rows)?;
         self.exports_default = self.exports_default | said.exports_default;
@@ -218,7 +229,7 @@ impl Uses {
         if !row.tally.has(Fact::Declared) && !row.tally.has(Fact::Written) {
             return true;
         }
-        let now = self.table.tally_at(row.number);
+        let now = self.table.tally_at(row.number as usize);
         if now.has(Fact::Used) || now.has(Fact::Hidden) {
             return true;
         }
@@ -245,7 +256,7 @@ impl Uses {
     fn passes_row(&self, row: &Row, gone: &[Id]) -> bool
         ensures { IsTrue result → (x : trees.Name) → row_says (names_of self.now) row.now fact.Declared x ≡ true → tables.is_free self.now x ≡ true → has_name x (ids gone.now) ≡ true }
     {
-        self.leaves_row(row) || self.is_among(row.number, gone)
+        self.leaves_row(row) || self.is_among(row.number as usize, gone)
     }
 
     /// Whether the tree shaker has nothing to do at an item that it left once, where names went that it declares and that are
@@ -255,7 +266,7 @@ impl Uses {
         requires { IsWithin (register_of self.now) said }
         ensures { IsTrue result → (t : trees.Tree) → Says (register_of self.now) said t → OnlyFree self.now (ids gone.now) t }
     {
-        let mut left: &[Row] = &self.rows[said.start..said.end];
+        let mut left: &[Row] = &self.rows[said.start as usize..said.end as usize];
         while let [row, rest @ ..] = left {
             if !self.passes_row(row, gone) {
                 return false;
@@ -265,20 +276,40 @@ impl Uses {
         true
     }
 
-    /// The names at which the tree shaker may have something to do in an item, by what the item says. Fails where memory is
-    /// refused.
-    pub fn touched(&self, alloc: Global, said: Said) -> Result<Vec<Id>, AllocError>
+    /// Whether a row tells of a declaration of a name that is neither read nor written, nor used without being named.
+    fn frees_row(&self, row: &Row) -> bool
+        ensures { result ≡ frees self.now.table row.now }
+    {
+        if !row.tally.has(Fact::Declared) {
+            return false;
+        }
+        let now = self.table.tally_at(row.number as usize);
+        !(now.has(Fact::Used) || now.has(Fact::Written) || now.has(Fact::Hidden))
+    }
+
+    /// The names that an item declares and that may be free, by what the item says: nothing where there are more than `most`.
+    /// Fails where memory is refused.
+    pub fn touched(
+        &self,
+        alloc: Global,
+        said: Said,
+        most: usize,
+    ) -> Result<Option<Vec<Id>>, AllocError>
         requires { IsWithin (register_of self.now) said }
+        ensures { IfOk result (λ o. IfSome o (λ r. length r.items ≤ most)) }
     {
         let mut touched = Vec::new(alloc);
-        for row in &self.rows[said.start..said.end] {
-            if self.leaves_row(row) {
+        for row in &self.rows[said.start as usize..said.end as usize] {
+            if !self.frees_row(row) {
                 continue;
             }
-            if let Some(name) = self.table.name(row.number) {
+            if let Some(name) = self.table.name(row.number as usize) {
+                if touched.len() == most {
+                    return Ok(None);
+                }
                 touched.push(name.clone()?)?;
             }
         }
-        Ok(touched)
+        Ok(Some(touched))
     }
 }

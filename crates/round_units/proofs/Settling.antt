@@ -13,17 +13,10 @@ use Rattle.dce_rules.specs.Shakes.{Shaker, goes_plainly, some_go, all_go, import
 use Rattle.dce_rules.specs.Uses.{declared_by_node, declared_in, declared_among}
 use Rattle.dce_uses.specs.Said.{OnlyFree}
 use Rattle.dce_uses.specs.Tables.{is_free}
+use Rattle.dce_uses.proofs.Adding.{and_false, or_false}
 use Rattle.dce_code.specs.declared.known.Known.{Known}
 use Rattle.dce_code.specs.Knowledge.{is_inner, may_go, shaker}
 use Rattle.round_units.specs.Rests.{AllGo, OnlyGo, Settles}
-
-and_none : (b : Bool) → (b && false) ≡ false
-and_none true = refl
-and_none false = refl
-
-or_none : (b : Bool) → (b || false) ≡ b
-or_none true = refl
-or_none false = refl
 
 from_not : (b : Bool) → not b ≡ true → b ≡ false
 from_not true h = absurd (false≢true h)
@@ -63,7 +56,7 @@ module _ (S Z : Shaker) where
   here x l ss cs is q = q x (or_left (has_name x (declared_by_node l)) (declared_among x cs) (ap (has_name x) is ∙ or_left (same_name x x) false (same_name_itself x)))
 
   one_went : (x : Name) → (Z.free x ≡ true → (S.free x ≡ true) × Stays) → any_of Z.free (x ∷ []) ≡ true → (any_of S.free (x ∷ []) ≡ true) × Stays
-  one_went x q g = let k = q (sym (or_none (Z.free x)) ∙ g) in (or_none (S.free x) ∙ k.0, k.1)
+  one_went x q g = let k = q (sym (or_false (Z.free x)) ∙ g) in (or_false (S.free x) ∙ k.0, k.1)
 
   valued_went : (b : Bool) (x : Name) → (Z.free x ≡ true → (S.free x ≡ true) × Stays) → any_of Z.free (if b then x ∷ [] else []) ≡ true → (any_of S.free (if b then x ∷ [] else []) ≡ true) × Stays
   valued_went true x q g = one_went x q g
@@ -87,14 +80,14 @@ module _ (S Z : Shaker) where
       by false e f k = let w = f k in (or_right (goes_plainly S t) (some_go S ts) w.0, w.1)
 
   import_stays : (cs : Forest) → LessAll cs → import_goes Z cs ≡ false
-  import_stays ε q = and_none Z.drops_imports
+  import_stays ε q = and_false Z.drops_imports
   import_stays (t ⊳ ts) q = by (goes_plainly Z t) refl
     where
       by : (b : Bool) → goes_plainly Z t ≡ b → import_goes Z (t ⊳ ts) ≡ false
       by true e = ap (λ d. d && (is_some_tree (t ⊳ ts) && all_go Z (t ⊳ ts))) (went t (first_of t ts q) e).1.1
       by false e =
           ap (λ b. Z.drops_imports && (is_some_tree (t ⊳ ts) && (b && all_go Z ts))) e
-          ∙ ap (λ b. Z.drops_imports && b) (and_none (is_some_tree (t ⊳ ts))) ∙ and_none Z.drops_imports
+          ∙ ap (λ b. Z.drops_imports && b) (and_false (is_some_tree (t ⊳ ts))) ∙ and_false Z.drops_imports
 
   -- no rule fits it by the second where none fits it by the first
   fits_none : (t : Tree) → Less t → FitsNone S t → FitsNone Z t
@@ -165,4 +158,4 @@ one_more S xs ys y is free stay g x h = by (or_cases (has_name x xs) (has_name x
   where
     by : (has_name x xs ≡ true) ⊎ (has_name x (y ∷ []) ≡ true) → (S.free x ≡ true) × (S.drops_imports ≡ false)
     by (inl k) = g x k
-    by (inr k) = (subst (λ z. S.free z ≡ true) (sym (same_name_path x y (sym (or_none (same_name x y)) ∙ k))) free, stay)
+    by (inr k) = (subst (λ z. S.free z ≡ true) (sym (same_name_path x y (sym (or_false (same_name x y)) ∙ k))) free, stay)

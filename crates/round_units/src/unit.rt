@@ -225,11 +225,10 @@ impl Unit {
         if rules.known.drops_imports {
             return Ok(Vec::new(rules.alloc));
         }
-        let touched = rules.known.uses.touched(rules.alloc, said)?;
-        if touched.len() > MOST_GONE {
-            return Ok(Vec::new(rules.alloc));
+        match rules.known.uses.touched(rules.alloc, said, MOST_GONE)? {
+            Some(names) => going(rules, names),
+            None => Ok(Vec::new(rules.alloc)),
         }
-        going(rules, touched)
     }
 
     /// Walks the item by the tree shaker, unless that is known to leave it.

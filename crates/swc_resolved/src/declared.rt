@@ -87,7 +87,7 @@ fn add_vars<'a>(names: &mut Vec<Name<'a>>, n: Node<'a>) -> Result<(), AllocError
     add_optional(names, own_var(opened.kind))
 }
 
-/// The same by a call: in `add_names` it would make the frame larger that `var`s need at each level.
+/// Adds the names that a node gives, by a call: in `add_names` this would make the frame larger that `var`s need at each level.
 #[cycle(names)]
 #[inline(never)]
 #[tactic(auto, using(crate::proofs::Gathered::specifiers, crate::proofs::Gathered::no_import, crate::proofs::Gathered::case_below, crate::proofs::Gathered::no_case, crate::proofs::Gathered::case_vars_below, crate::proofs::Gathered::no_case_vars, crate::proofs::Gathered::declarator, crate::proofs::Gathered::param, crate::proofs::Gathered::imported))]
