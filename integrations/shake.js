@@ -100,10 +100,19 @@ function faultOf(said, text) {
     return new ShakeError(`shake: ${said}`);
 }
 
+// A tree has millions of small nodes. With memory in pages of 2 MB, which Linux gives a program that asks for them, the program
+// takes up to a fifth less time (docs/BENCH.md). glibc asks for them where this variable says so; other systems don't read it.
+const LARGE_PAGES = 'glibc.malloc.hugetlb=1:glibc.malloc.top_pad=67108864';
+
+/** Returns the variables that the program is started with: those of this process, and what asks for large pages unless it is set. */
+function environment() {
+    return { GLIBC_TUNABLES: LARGE_PAGES, ...process.env };
+}
+
 /** Runs a command on a text. Returns `{ status, signal, output, errors }`. */
 function runCommand([program, ...words], text) {
     return new Promise((resolve, reject) => {
-        const child = spawn(program, words, { stdio: ['pipe', 'pipe', 'pipe'] });
+        const child = spawn(program, words, { stdio: ['pipe', 'pipe', 'pipe'], env: environment() });
         const parts = { stdout: [], stderr: [] };
         for (const stream of ['stdout', 'stderr']) child[stream].on('data', (part) => parts[stream].push(part));
         const whole = (stream) => Buffer.concat(parts[stream]).toString('utf8');

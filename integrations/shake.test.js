@@ -67,6 +67,20 @@ test('a text is simplified, left or refused', async () => {
     await assert.rejects(simplify('f();', { program: path.join(__dirname, 'no-such-program') }), /can't be run/);
 });
 
+test('the program is asked to take large pages, unless the user says otherwise', async () => {
+    const said = process.env.GLIBC_TUNABLES;
+    const program = [process.execPath, '-e', 'process.stdout.write(process.env.GLIBC_TUNABLES)'];
+    try {
+        delete process.env.GLIBC_TUNABLES;
+        assert.match((await simplify('', { program })).code, /\bglibc\.malloc\.hugetlb=1\b/);
+        process.env.GLIBC_TUNABLES = 'glibc.malloc.check=0';
+        assert.deepEqual(await simplify('', { program }), { code: 'glibc.malloc.check=0' });
+    } finally {
+        if (said === undefined) delete process.env.GLIBC_TUNABLES;
+        else process.env.GLIBC_TUNABLES = said;
+    }
+});
+
 test('each option reaches the program', { skip: process.env.SHAKE === undefined ? 'SHAKE is not set' : false }, async () => {
     const rows = [
         ['let a = 1 + 2;', { pass: 'expr' }, 'let a = 3;\n'],
