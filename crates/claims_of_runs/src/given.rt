@@ -9,6 +9,7 @@ ghost use Rattle.swc_levels.specs.Levels.{levels};
 ghost use Rattle.swc_expr_map.specs.Order.{same_key};
 ghost use Rattle.swc_expr_map.specs.Entries.{found, number_of};
 ghost use Rattle.given_globals.specs.Globals.{answers_of};
+ghost use Rattle.swc_inline_globals.specs.Answers.{Inlined, Refused as GlobalsRefused};
 ghost use Rattle.swc_inline_globals.specs.Nesting.{TellsOfTree};
 ghost use Rattle.const_imports.specs.Views.{IsFirst};
 ghost use Rattle.const_pass.specs.Replaced.{constants_in, faults_in, Replaced};
@@ -46,6 +47,18 @@ pub fn prepare(
     shake_given::prepare(alloc, flags, mark, module)
 }
 
+/// `shake_given::prepare`, of which the levels are asked
+pub fn prepare_levels(
+    alloc: Global,
+    given: &[Flag<'_>],
+    mark: Mark,
+    module: Module,
+) -> Result<Module, GivenError>
+    ensures levels { IfOk result (λ r. levels (module_tree r) ≤ max 1000 (levels (module_tree «module»))) }
+{
+    shake_given::prepare(alloc, given, mark, module)
+}
+
 /// `Display` of `GivenError`
 #[derive(Clone, Copy)]
 pub struct Told<'a>(pub &'a GivenError);
@@ -68,6 +81,21 @@ pub fn replace(pass: &mut ConstModules, alloc: Global, module: Module) -> Result
     ensures refused { OnErr result (⟦<ConstModules as Repeated>⟧.is_changed pass.new ≡ false) }
 {
     pass.fold_module(alloc, module)
+}
+
+/// `InlineGlobals::fold_module`
+pub fn put_globals<'a>(
+    globals: &mut InlineGlobals<'a>,
+    alloc: Global,
+    module: Module,
+) -> Result<Module, PassError>
+    ensures settings { globals.new.settings ≡ globals.old.settings }
+    ensures answer { IfOk result (λ r. Inlined globals.old.settings (module_tree «module») (module_tree r)) }
+    ensures changed { IfOk result (λ r. TellsChange (⟦<InlineGlobals<'a> as Repeated>⟧.is_changed globals.new) (module_tree «module») (module_tree r)) }
+    ensures refused { OnErr result (⟦<InlineGlobals<'a> as Repeated>⟧.is_changed globals.new ≡ false) }
+    ensures told { IfErr result (GlobalsRefused globals.old.settings (module_tree «module»)) }
+{
+    globals.fold_module(alloc, module)
 }
 
 /// `InlineGlobals::count_levels`

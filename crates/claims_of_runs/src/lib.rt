@@ -5,5 +5,7 @@
 mod given;
 mod runs;
 
-pub use given::{Told, count_levels, get, insert, number, prepare, replace};
+pub use given::{
+    Told, count_levels, get, insert, number, prepare, prepare_levels, put_globals, replace,
+};
 pub use runs::{json_parse, run, run_pass};
