@@ -1,5 +1,5 @@
 -- Scopes that are bound one by one: what is taken behind them, and what is bound twice.
-use Rattle.std.proofs.Common.{◌≡◌, ℕ, ◌+◌, ◌≤◌, Bool, true, false, ◌||◌, List, [], ◌++◌, refl, sym, ap, ap₂, ◌∙◌, arith}
+use Rattle.std.proofs.Common.{◌≡◌, ℕ, ◌+◌, ◌≤◌, Bool, true, false, ◌||◌, List, [], ◌++◌, refl, sym, ap, ◌∙◌, arith}
 use Rattle.std.proofs.lemmas.Bool.{false≢true}
 use Rattle.std.specs.Prelude.{if◌then◌else◌}
 use Rattle.swc_ast.specs.Tree as tree
@@ -113,6 +113,3 @@ bind_ends new g us is h x = let f = ap (scopes_all x) is in let k = h x in omega
 
 pub gathered_one : (start : List Key) (all xs : List Name) → start ≡ [] → all ≡ names start ++ xs → all ≡ xs
 gathered_one start all xs is e = e ∙ ap (λ ks. names ks ++ xs) is
-
-pub gathered_two : (start : List Key) (some all : List Name) (ps bs qs cs : Forest) → start ≡ [] → some ≡ names start ++ param_names ps → all ≡ some ++ declared_names bs → ps ≡ qs → bs ≡ cs → all ≡ param_names qs ++ declared_names cs
-gathered_two start some all ps bs qs cs is e f p b = f ∙ ap (λ xs. xs ++ declared_names bs) (gathered_one start some (param_names ps) is e) ∙ ap₂ (λ us vs. param_names us ++ declared_names vs) p b

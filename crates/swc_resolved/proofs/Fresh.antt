@@ -19,8 +19,8 @@ abbrev pub AreNew : (old cur : Name → Bool) → List key.Name → List key.Nam
 AreNew old cur ns left = (done : List key.Name) × (ns ≡ done ++ left) × Binds true old cur (λ x. one_if (has_name x (names done))) × (distinct (names done) ≡ true)
 
 -- the start of a loop that puts them in
-pub none_yet : (old : Name → Bool) (ns : List key.Name) → AreNew old old ns ns
-none_yet old ns = ([], refl, λ x. omega arith, refl)
+pub none_yet : (old cur : Name → Bool) (ns : List key.Name) → ((x : Name) → cur x ≡ old x) → AreNew old cur ns ns
+none_yet old cur ns same = ([], refl, λ x. let h = ap one_if (same x) in omega (arith, h), refl)
 
 -- a name that is put in
 

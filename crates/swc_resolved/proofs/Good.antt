@@ -1,5 +1,5 @@
 -- One walk over a tree, by what a node is and its children.
-use Rattle.std.proofs.Common.{◌≡◌, ℕ, ◌+◌, Bool, true, false, refl, sym, ap, ap₂, ◌∙◌}
+use Rattle.std.proofs.Common.{◌≡◌, ℕ, ◌+◌, Bool, true, false, not, refl, sym, ap, ap₂, ◌∙◌}
 use Rattle.std.proofs.lemmas.Bool.{false≢true, and_parts}
 use Rattle.std.proofs.lemmas.Result.{IfOk-weaker}
 use Rattle.std.specs.Prelude.{◌&&◌, if◌then◌else◌, Result, IfOk}
@@ -76,14 +76,14 @@ named_if : (v : Bool) (l : Label) (cs : Forest) → named_once l cs ≡ true →
 named_if true l cs once = once
 named_if false l cs once = refl
 
--- each name was new, and so none is declared twice
+-- none is declared twice
 pub passes_once : (v : Bool) (l : Label) (cs : Forest) (old new : Name → Bool) (all : Name → ℕ) → BindsNamed bound.Once old new all (named_once l cs) → Passes true (own_named v l cs) old new all
 passes_once v l cs old new all binds = (named_if v l cs binds.1, binds.0)
 
--- it was asked whether one is declared twice
-pub passes_again : (b q : Bool) (old new : Name → Bool) (all : Name → ℕ) → b ≡ q → Binds true old new all → Passes b q old new all
-passes_again true q old new all is binds = (sym is, binds)
-passes_again false q old new all is binds = λ good. absurd (false≢true (is ∙ good))
+-- one is declared twice, which counts where the core is asked for
+pub passes_again : (v : Bool) (l : Label) (cs : Forest) (old new : Name → Bool) (all : Name → ℕ) → BindsNamed bound.Again old new all (named_once l cs) → Passes (not v) (own_named v l cs) old new all
+passes_again true l cs old new all binds = λ good. absurd (false≢true (sym binds.1 ∙ good))
+passes_again false l cs old new all binds = (refl, binds.0)
 
 -- trees in a row
 

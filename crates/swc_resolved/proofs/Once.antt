@@ -99,8 +99,8 @@ fresh_is ms (x ∷ xs) = ap (λ b. not (has_name x ms) && b) (fresh_is (x ∷ ms
     turned false false true d = refl
     turned false false false d = refl
 
-pub one_starts : (ms xs : List Name) → ms ≡ [] → fresh ms xs ≡ once_each xs xs
-one_starts ms xs is = ap (λ ns. fresh ns xs) is ∙ fresh_is [] xs ∙ ap (λ b. b && distinct xs) (none_in_none xs) ∙ sym (once_is_distinct xs)
+pub one_starts : (ms xs : List Name) → ((y : Name) → has_name y ms ≡ false) → fresh ms xs ≡ once_each xs xs
+one_starts ms xs none = fresh_same ms [] xs none ∙ fresh_is [] xs ∙ ap (λ b. b && distinct xs) (none_in_none xs) ∙ sym (once_is_distinct xs)
 
 -- a step of a loop that puts names in
 pub one_goes_on : (x : Name) (ms ns xs : List Name) (g : Bool) → has_name x ms ≡ false → ((y : Name) → has_name y ns ≡ (has_name y ms || same_name y x)) → fresh ms (x ∷ xs) ≡ g → fresh ns xs ≡ g

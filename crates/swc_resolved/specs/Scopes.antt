@@ -54,10 +54,10 @@ abbrev pub Binds : Bool → (Name → Bool) → (Name → Bool) → (Name → �
 Binds true old new more = (x : Name) → one_if (new x) ≡ one_if (old x) + more x
 Binds false old new more = (x : Name) × (2 ≤ one_if (old x) + more x)
 
--- The same by how scopes were bound, where it is also told whether they declare no name twice: if each name was new, they do not.
+-- The same by how scopes were bound, where it is also told whether they declare no name twice.
 abbrev pub BindsNamed : Bound → (Name → Bool) → (Name → Bool) → (Name → ℕ) → Bool → Type 0
 BindsNamed bound.Once old new more good = Binds true old new more × (good ≡ true)
-BindsNamed bound.Again old new more good = Binds true old new more
+BindsNamed bound.Again old new more good = Binds true old new more × (good ≡ false)
 BindsNamed bound.Taken old new more good = Binds false old new more
 
 -- how scopes were bound and, behind them, others

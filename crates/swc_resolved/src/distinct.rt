@@ -1,7 +1,8 @@
 //! Whether names stand in a list once, and lists have no name in common.
-ghost use Rattle.std.specs.Prelude.{◌≡◌, ◌&&◌, IfOk, IfSome};
+ghost use Rattle.std.specs.Prelude.{◌≡◌, ◌&&◌, ◌≤◌, length, IfOk, IfSome};
 ghost use Rattle.swc_ast.specs.Core.{once_each, none_in};
 ghost use Rattle.swc_resolved.specs.Names.{names as names_of, members};
+ghost use Rattle.swc_resolved.specs.Here.{stand_apart};
 ghost use Rattle.swc_resolved.specs.Once.{EachOnce, AreMembers};
 
 use crate::names::{Name, NameSet};
@@ -14,6 +15,7 @@ fn set_of<'a>(names: &[Name<'a>], alloc: Global) -> Result<Option<NameSet<'a>>, 
     ensures members { IfOk result (λ o. IfSome o (AreMembers (names_of names.now))) }
 {
     let mut set = NameSet::new(alloc);
+    set.make_room(names.len());
     let mut left = names;
     while let [name, rest @ ..] = left {
         if !set.insert(*name)? {
@@ -55,12 +57,33 @@ pub(crate) fn are_apart<'a>(
     }
 }
 
+/// Whether the names of a scope stand as the core wants them: as many as `strict` in front once each, and those behind as many as
+/// `loose` once each and not in front too. Fails where memory is refused.
+#[inline(never)]
+pub(crate) fn stand_apart<'a>(
+    names: &[Name<'a>],
+    strict: usize,
+    loose: usize,
+    alloc: Global,
+) -> Result<bool, AllocError>
+    requires strict { strict ≤ length names.now }
+    requires loose { loose ≤ length names.now }
+    ensures { IfOk result (λ b. b ≡ stand_apart strict loose (names_of names.now)) }
+{
+    if !are_apart(&names[loose..], &names[..loose], alloc)? {
+        return Ok(false);
+    }
+    let is_good = are_distinct(&names[..strict], alloc)?;
+    Ok(is_good)
+}
+
 impl<'a> NameSet<'a> {
     /// The set of some names. Fails where memory is refused.
     pub(crate) fn of(names: &[Name<'a>], alloc: Global) -> Result<NameSet<'a>, AllocError>
         ensures { IfOk result (AreMembers (names_of names.now)) }
     {
         let mut set = NameSet::new(alloc);
+        set.make_room(names.len());
         let mut left = names;
         while let [name, rest @ ..] = left {
             set.insert(*name)?;

@@ -56,11 +56,7 @@ pub(crate) fn is_in_range(z: i64) -> bool
 }
 
 #[inline(always)]
-pub(crate) fn is_named_once(
-    kind: Kind<'_>,
-    children: Children<'_>,
-    alloc: Global,
-) -> Result<bool, AllocError>
+fn is_named_once(kind: Kind<'_>, children: Children<'_>, alloc: Global) -> Result<bool, AllocError>
     ensures { IfOk result (λ b. b ≡ named_once (kind_label kind.entry) (children_forest children.entry)) }
 {
     match kind {

@@ -12,6 +12,9 @@ use std::alloc::{AllocError, Global};
 use std::collections::HashSet;
 use swc_ast::{Ident, Mark, SyntaxContext};
 
+/// For as many names at most room is made one by one.
+const MANY: usize = 64;
+
 /// A name: its text, and the context that tells names of one text apart.
 #[derive(Clone, Copy, PartialEq, Eq, Hash)]
 pub struct Name<'a> {
@@ -80,6 +83,14 @@ impl<'a> NameSet<'a> {
     {
         Ok(self.names.insert(x)?)
     }
+
+    /// Makes room for more names at once, where there is memory for them. (A set without room makes it as names come.)
+    #[inline(never)]
+    pub(crate) fn make_room(&mut self, more: usize)
+        ensures { (y : tree.Name) → has_name y (members self.new) ≡ has_name y (members self.old) }
+    {
+        let _made = self.names.reserve(more);
+    }
 }
 
 /// A set of texts.
@@ -142,6 +153,17 @@ impl<'a> Taken<'a> {
             names: NameSet::new(alloc),
             unresolved_mark,
         }
+    }
+
+    /// Makes room for the names of a scope, if they are many.
+    #[inline(always)]
+    pub(crate) fn make_room(&mut self, more: usize)
+        ensures { (y : tree.Name) → is_taken self.new y ≡ is_taken self.old y }
+    {
+        if more <= MANY {
+            return;
+        }
+        self.names.make_room(more);
     }
 
     /// Whether no scope may bind a name any more.

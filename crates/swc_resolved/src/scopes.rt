@@ -1,17 +1,18 @@
 //! Scopes, and the names that they bind.
-ghost use Rattle.std.specs.Prelude.{◌≡◌, ◌&&◌, ◌||◌, not, IfOk, OnOk};
+ghost use Rattle.std.specs.Prelude.{◌≡◌, ◌≤◌, ◌++◌, ◌&&◌, ◌||◌, not, length, IfOk, OnOk};
 ghost use Rattle.swc_ast.specs.Core.{good_body};
-ghost use Rattle.swc_ast.specs.Resolved.{one_if, params_of, body_of, function_scopes, own_scopes};
+ghost use Rattle.swc_ast.specs.Resolved.{one_if, declared_names, params_of, body_of, function_scopes, own_scopes};
 ghost use Rattle.swc_ast.specs.Scope.{has_name, param_names};
 ghost use Rattle.swc_ast.specs.Tree as tree;
-ghost use Rattle.swc_ast.specs.Tree.{same_name};
+ghost use Rattle.swc_ast.specs.Tree.{same_name, Module};
 ghost use Rattle.tree_visit.specs.Kinds.{kind_label};
 ghost use Rattle.tree_visit.specs.Nodes.{children_forest};
 ghost use Rattle.swc_resolved.specs.Names.{name, names as names_of, members, is_taken};
-ghost use Rattle.swc_resolved.specs.Here.{distinct, named_once};
+ghost use Rattle.swc_resolved.specs.Here.{named_once, stand_apart};
 ghost use Rattle.swc_resolved.specs.Scopes.{Binds, BindsNamed, both, opens_scope};
 
-use crate::declared::{Part, add_body, add_names, add_own_names};
+use crate::declared::{Part, add_names, add_own_names};
+use crate::distinct::stand_apart;
 use crate::functions::{Half, half_of, has_default, is_function};
 use crate::names::{Name, NameSet, Taken};
 use std::alloc::{AllocError, Global};
@@ -20,9 +21,9 @@ use tree_visit::{Children, Kind};
 /// How scopes were bound.
 #[derive(Clone, Copy)]
 pub(crate) enum Bound {
-    /// each of their names was new
+    /// no name was taken, and none of them declares one twice
     Once,
-    /// no name was taken, but one may stand twice in a scope
+    /// no name was taken, but one of them declares one twice
     Again,
     /// a name was taken
     Taken,
@@ -61,10 +62,20 @@ fn opens_scope(kind: Kind<'_>) -> bool
 }
 
 impl<'a> Taken<'a> {
-    /// Binds the names of a scope, and says how. Fails where memory is refused.
-    fn bind_scope(&mut self, names: &[Name<'a>], alloc: Global) -> Result<Bound, AllocError>
-        ensures { IfOk result (λ b. BindsNamed b (is_taken self.old) (is_taken self.new) (λ x. one_if (has_name x (names_of names.now))) (distinct (names_of names.now))) }
+    /// Binds the names of a scope, and says how: as many as `strict` in front may stand there once each, and so may those behind as
+    /// many as `loose`, of which none may be in front too. Fails where memory is refused.
+    fn bind_scope(
+        &mut self,
+        names: &[Name<'a>],
+        strict: usize,
+        loose: usize,
+        alloc: Global,
+    ) -> Result<Bound, AllocError>
+        requires strict { strict ≤ length names.now }
+        requires loose { loose ≤ length names.now }
+        ensures { IfOk result (λ b. BindsNamed b (is_taken self.old) (is_taken self.new) (λ x. one_if (has_name x (names_of names.now))) (stand_apart strict loose (names_of names.now))) }
     {
+        self.make_room(names.len());
         let mut left = names;
         while let [name, rest @ ..] = left {
             if !self.add(*name)? {
@@ -72,7 +83,10 @@ impl<'a> Taken<'a> {
                 if !self.bind_others(left, done, alloc)? {
                     return Ok(Bound::Taken);
                 }
-                return Ok(Bound::Again);
+                if !stand_apart(names, strict, loose, alloc)? {
+                    return Ok(Bound::Again);
+                }
+                return Ok(Bound::Once);
             }
             left = rest;
         }
@@ -114,7 +128,39 @@ impl<'a> Taken<'a> {
         Ok(is_new)
     }
 
+    /// Binds the scope of other names and those that a body declares.
+    #[inline(never)]
+    fn bind_list(
+        &mut self,
+        others: Vec<Name<'a>>,
+        body: Children<'a>,
+        alloc: Global,
+    ) -> Result<Bound, AllocError>
+        ensures { IfOk result (λ b. BindsNamed b (is_taken self.old) (is_taken self.new) (λ x. one_if (has_name x (names_of others.entry.items ++ declared_names (children_forest body.entry)))) (good_body (names_of others.entry.items) (children_forest body.entry))) }
+    {
+        let mut names = others;
+        let strict = names.len();
+        add_names(&mut names, body, Part::Vars)?;
+        let loose = names.len();
+        add_names(&mut names, body, Part::Declarations)?;
+        self.bind_scope(&names, strict, loose, alloc)
+    }
+
+    /// Binds the scope of a module. (Its imports stand behind the names of `var`s, which may not declare them again.)
+    #[inline(never)]
+    fn bind_module(&mut self, items: Children<'a>, alloc: Global) -> Result<Bound, AllocError>
+        ensures { IfOk result (λ b. BindsNamed b (is_taken self.old) (is_taken self.new) (λ x. own_scopes x Module (children_forest items.entry)) (named_once Module (children_forest items.entry))) }
+    {
+        let mut names = Vec::new(alloc);
+        add_names(&mut names, items, Part::Vars)?;
+        let loose = names.len();
+        add_names(&mut names, items, Part::Imports)?;
+        add_names(&mut names, items, Part::Declarations)?;
+        self.bind_scope(&names, 0, loose, alloc)
+    }
+
     /// Binds the scopes of a function's parameters and body: one, or two beside a default.
+    #[inline(never)]
     fn bind_function(&mut self, children: Children<'a>, alloc: Global) -> Result<Bound, AllocError>
         ensures { IfOk result (λ b. BindsNamed b (is_taken self.old) (is_taken self.new) (λ x. function_scopes x (children_forest children.entry)) (good_body (param_names (params_of (children_forest children.entry))) (body_of (children_forest children.entry)))) }
     {
@@ -123,13 +169,10 @@ impl<'a> Taken<'a> {
         let mut names = Vec::new(alloc);
         add_names(&mut names, params, Part::Params)?;
         if !has_default(params) {
-            add_body(&mut names, body)?;
-            return self.bind_scope(&names, alloc);
+            return self.bind_list(names, body, alloc);
         }
-        let outer_bound = self.bind_scope(&names, alloc)?;
-        let mut inner = Vec::new(alloc);
-        add_body(&mut inner, body)?;
-        let inner_bound = self.bind_scope(&inner, alloc)?;
+        let outer_bound = self.bind_scope(&names, 0, 0, alloc)?;
+        let inner_bound = self.bind_list(Vec::new(alloc), body, alloc)?;
         Ok(outer_bound.and(inner_bound))
     }
 
@@ -150,6 +193,7 @@ impl<'a> Taken<'a> {
     }
 
     /// The same of a node that opens one.
+    #[inline(never)]
     fn bind_opened(
         &mut self,
         kind: Kind<'a>,
@@ -158,13 +202,19 @@ impl<'a> Taken<'a> {
     ) -> Result<Bound, AllocError>
         ensures { IfOk result (λ b. BindsNamed b (is_taken self.old) (is_taken self.new) (λ x. own_scopes x (kind_label kind.entry) (children_forest children.entry)) (named_once (kind_label kind.entry) (children_forest children.entry))) }
     {
-        let mut names = Vec::new(alloc);
-        add_own_names(&mut names, kind, children)?;
-        let own_bound = self.bind_scope(&names, alloc)?;
-        if !is_function(kind) {
-            return Ok(own_bound);
+        match kind {
+            Kind::Module => self.bind_module(children, alloc),
+            Kind::Script => self.bind_list(Vec::new(alloc), children, alloc),
+            _ => {
+                let mut names = Vec::new(alloc);
+                add_own_names(&mut names, kind, children)?;
+                let own_bound = self.bind_scope(&names, 0, 0, alloc)?;
+                if !is_function(kind) {
+                    return Ok(own_bound);
+                }
+                let function_bound = self.bind_function(children, alloc)?;
+                Ok(own_bound.and(function_bound))
+            }
         }
-        let function_bound = self.bind_function(children, alloc)?;
-        Ok(own_bound.and(function_bound))
     }
 }

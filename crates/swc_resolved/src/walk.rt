@@ -11,7 +11,7 @@ ghost use Rattle.swc_resolved.specs.Names.{is_taken};
 ghost use Rattle.swc_resolved.specs.Asked.{own_fit, own_good, own_named, good, good_all, Passes};
 
 use crate::apart::is_own_apart;
-use crate::here::{has_number_in_range, is_named_once};
+use crate::here::has_number_in_range;
 use crate::jumps::{Targets, is_jump_aimed, joined};
 use crate::leaves::is_leaf_fit;
 use crate::names::Taken;
@@ -34,23 +34,6 @@ fn is_own_fit(kind: Kind<'_>, children: Children<'_>, core_too: bool) -> bool
         return false;
     }
     has_number_in_range(kind)
-}
-
-/// Whether the scope that a node opens declares no name twice, where this is asked for. Fails where memory is refused.
-#[inline(never)]
-fn is_own_named(
-    kind: Kind<'_>,
-    children: Children<'_>,
-    core_too: bool,
-    alloc: Global,
-) -> Result<bool, AllocError>
-    ensures { IfOk result (λ b. b ≡ own_named core_too (kind_label kind.entry) (children_forest children.entry)) }
-{
-    if !core_too {
-        return Ok(true);
-    }
-    let is_named = is_named_once(kind, children, alloc)?;
-    Ok(is_named)
 }
 
 /// Whether a node that is a jump has a target, a function with a default declares no text of a parameter in its body, and, where
@@ -90,10 +73,7 @@ impl<'a> Taken<'a> {
     {
         match self.bind_own(kind, children, alloc)? {
             Bound::Once => Ok(true),
-            Bound::Again => {
-                let is_named = is_own_named(kind, children, core_too, alloc)?;
-                Ok(is_named)
-            }
+            Bound::Again => Ok(!core_too),
             Bound::Taken => Ok(false),
         }
     }

@@ -8,10 +8,12 @@ use Rattle.swc_ast.specs.Tree.{Name, Label, Tree, node, Forest, ε, ◌⊳◌, l
 use Rattle.swc_ast.specs.Valid.{good_names, good_shape, valid, valid_all}
 use Rattle.swc_ast.specs.declared.names.Ident.{Ident}
 use Rattle.swc_debug.proofs.Whole.{split_as as valid_split}
+use Rattle.swc_resolved.specs.Scopes.{own_names}
 use Rattle.tree_visit.proofs.Caps.{tree_size, forest_size, opened_smaller}
-use Rattle.tree_captures.specs.Captured.{Scopes, Inside, Sight, Caught, Sound, spelled, if_captured, inside, behind_first, captured, captured_in, first_of, seen}
+use Rattle.tree_captures.specs.Captured.{Scopes, Inside, Sight, Caught, Sound, no_scope, with_scope, spelled, if_captured, reach, each, behind_first, within, inside, captured, captured_in, first_of, seen}
 use Rattle.tree_captures.specs.Views.{told, sight, sight_of}
 use Rattle.tree_captures.specs.declared.captures.Seen.{Seen}
+use Rattle.tree_captures.specs.declared.reach.Reach.TheVariants.{Each}
 
 -- what is seen of some names
 
@@ -31,7 +33,7 @@ abbrev caught_name : Sight → Option Name
 caught_name (Caught x) = Some x
 caught_name (Sound v) = None
 
-nothing : (o : Option (Bor Ident)) (xs : List Name) → told o ≡ first_of xs → is_some o ≡ false → xs ≡ []
+pub nothing : (o : Option (Bor Ident)) (xs : List Name) → told o ≡ first_of xs → is_some o ≡ false → xs ≡ []
 nothing None [] e h = refl
 nothing None (x ∷ xs) e h = absurd (false≢true (ap is_some e))
 nothing (Some n) xs e h = absurd (false≢true (sym h))
@@ -84,10 +86,22 @@ valid_of t l cs v labelled held = ap (λ b. v && b) (sym (valid_split t l cs lab
 valid_below : (t : Tree) (l : Label) (cs : Forest) (v g : Bool) → label_of t ≡ l → children_of t ≡ cs → g ≡ (v && (good_names l && good_shape l cs)) → (g && valid_all cs) ≡ (v && valid t)
 valid_below t l cs v g labelled held good = ap (λ b. b && valid_all cs) good ∙ (two_of v (good_names l && good_shape l cs) (valid_all cs) ∙ valid_of t l cs v labelled held)
 
-pub found_below : (e : Scopes) (t : Tree) (l : Label) (cs : Forest) (o : Option (Bor Ident)) (v g : Bool) → label_of t ≡ l → children_of t ≡ cs → told o ≡ first_of (if_captured e (spelled l)) → is_some o ≡ false → g ≡ (v && (good_names l && good_shape l cs)) → seen (captured_in (inside l cs e) cs) (g && valid_all cs) ≡ seen (captured e t) (v && valid t)
-found_below e t l cs o v g labelled held own is good = ap₂ seen
-    (sym (split_as e t l cs labelled held ∙ ap (λ xs. xs ++ captured_in (inside l cs e) cs) (nothing o (if_captured e (spelled l)) own is)))
+pub found_below : (e : Scopes) (t : Tree) (l : Label) (cs : Forest) (i : Inside) (v g : Bool) → label_of t ≡ l → children_of t ≡ cs → if_captured e (spelled l) ≡ [] → i ≡ inside l cs e → g ≡ (v && (good_names l && good_shape l cs)) → seen (captured_in i cs) (g && valid_all cs) ≡ seen (captured e t) (v && valid t)
+found_below e t l cs i v g labelled held free is good = ap₂ seen
+    (sym (split_as e t l cs labelled held ∙ ap₂ (λ xs j. xs ++ captured_in j cs) free (sym is)))
     (valid_below t l cs v g labelled held good)
+
+-- a node that no scope is round, and whose own scope is round each child
+
+unscoped : (o : Option Name) → if_captured no_scope o ≡ []
+unscoped None = refl
+unscoped (Some x) = refl
+
+inside_each : (l : Label) (cs : Forest) (e f : Scopes) → reach l ≡ Each → f ≡ with_scope (own_names l cs) e → each f ≡ inside l cs e
+inside_each l cs e f whole is = ap each is ∙ sym (ap (λ r. within r cs e (with_scope (own_names l cs) e)) whole)
+
+pub found_in_whole : (t : Tree) (l : Label) (cs : Forest) (f : Scopes) (w : Scopes → Inside) (g : Bool) → label_of t ≡ l → children_of t ≡ cs → reach (label_of t) ≡ Each → f ≡ with_scope (own_names l cs) no_scope → w ≡ each → g ≡ (good_names l && good_shape l cs) → seen (captured_in (w f) cs) (g && valid_all cs) ≡ seen (captured no_scope t) (valid t)
+found_in_whole t l cs f w g labelled held whole own is good = found_below no_scope t l cs (w f) true g labelled held (unscoped (spelled l)) (ap (λ v. v f) is ∙ inside_each l cs no_scope f (sym (ap reach labelled) ∙ whole) own) good
 
 -- nodes in a row
 

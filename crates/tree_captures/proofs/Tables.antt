@@ -8,6 +8,7 @@ use Rattle.std.proofs.lemmas.Slice.Eq.{bytes_eq-Decides}
 use Rattle.std.specs.Borrow.{Bor}
 use Rattle.std.specs.HashMap.{get_by, UpdatesBy}
 use Rattle.std.specs.List.{list_any}
+use Rattle.std.specs.Map.{lookup}
 use Rattle.std.specs.Prelude.{if◌then◌else◌}
 use mathlib.Core.Path.{fun_ext}
 use Rattle.swc_ast.specs.Tree.{Text, Name, same_name}
@@ -18,7 +19,7 @@ use Rattle.static_proofs.proofs.Names.{same_name_swap}
 use Rattle.swc_resolved.specs.Names.{name, names}
 use Rattle.swc_resolved.specs.declared.names.Name as key
 use Rattle.swc_resolved.proofs.Once.{nobody}
-use Rattle.tree_captures.specs.Captured.{Scopes, with_scope}
+use Rattle.tree_captures.specs.Captured.{Scopes, no_scope, with_scope}
 use Rattle.tree_captures.specs.Views.{contexts, contexts_of, has_context, lacks, captures, known_of, binds, restored}
 use Rattle.tree_captures.specs.declared.table.Known.{Known}
 use Rattle.tree_captures.specs.declared.table.Outer.{Outer}
@@ -164,6 +165,20 @@ opened_at xs old mid new taken some bound x = opened_by (declares_text xs x.text
 
 pub opened : (xs : List Name) (old mid new : Table) → ((t : Text) → known_of mid t ≡ (if declares_text xs t then None else known_of old t)) → ((t : Text) → is_some (known_of new t) ≡ (is_some (known_of mid t) || declares_text xs t)) → ((y : Name) → binds new y ≡ (binds mid y || has_name y xs)) → captures new ≡ with_scope xs (captures old)
 opened xs old mid new taken some bound = fun_ext (opened_at xs old mid new taken some bound)
+
+-- the first one is opened in an empty table
+
+none_known : (m : Table) → m.known.entries ≡ [] → (t : Text) → known_of m t ≡ None
+none_known m is t = ap (lookup (λ (k : Bor (List ℕ)). bytes_eq t k.now)) is
+
+taken_of_none : {A : Type 0} (d : Bool) (o : Option A) → o ≡ None → o ≡ (if d then None else o)
+taken_of_none true o h = h
+taken_of_none false o h = refl
+
+pub opened_first : (xs : List Name) (old new : Table) → old.known.entries ≡ [] → ((t : Text) → is_some (known_of new t) ≡ (is_some (known_of old t) || declares_text xs t)) → ((y : Name) → binds new y ≡ (binds old y || has_name y xs)) → captures new ≡ with_scope xs no_scope
+opened_first xs old new is some bound = opened xs old old new (λ t. taken_of_none (declares_text xs t) (known_of old t) (none_known old is t)) some bound ∙ ap (with_scope xs) (fun_ext (λ x. ap (λ k. lacks k x) (none_known old is x.text)))
+
+-- what a scope leaves of the scopes round it
 
 outside_by : (d a b c : Bool) → b ≡ (if d then a else c) → (if d then c else b) ≡ c
 outside_by true a b c h = refl

@@ -1,4 +1,5 @@
 -- The scopes round each child of a node, in turn.
+use Rattle.std.specs.Prelude.{◌≡◌}
 use Rattle.swc_resolved.specs.Scopes.{own_names}
 use Rattle.tree_visit.specs.Kinds.{kind_label}
 use Rattle.tree_visit.specs.Nodes.{children_forest}
@@ -37,6 +38,12 @@ next place.First = place.Second
 next place.Second = place.Third
 next place.Third = place.Later
 next place.Later = place.Later
+
+-- the scopes are those of the same node
+pub record SameNode (old new : Scopes) : Type 0 where
+  pub reach : new.reach ≡ old.reach
+  pub kind : new.kind ≡ old.kind
+  pub children : new.children ≡ old.children
 
 -- the scopes inside a node, given those round it
 abbrev pub within : Scopes → captured.Scopes → Inside

@@ -1,15 +1,17 @@
 //! The first captured name of a tree, in the order of the text, and whether the tree is valid.
 ghost use Rattle.std.specs.Prelude.{◌≡◌, ◌&&◌, Bool, true, false, List, IfOk};
 ghost use Rattle.swc_ast.specs.Modules.{module_tree, script_tree};
-ghost use Rattle.swc_ast.specs.Tree.{Name as TreeName};
+ghost use Rattle.swc_ast.specs.Tree.{Name as TreeName, label_of};
 ghost use Rattle.swc_ast.specs.Valid.{good_names, good_shape, valid, valid_all};
-ghost use Rattle.tree_captures.specs.Captured.{spelled as label_spelled, no_scope, if_captured, captured, captured_in, inside, first_of, seen};
+ghost use Rattle.tree_captures.specs.Captured.{reach as label_reach, spelled as label_spelled, no_scope, if_captured, captured, captured_in, first_of, seen};
+ghost use Rattle.tree_captures.specs.Places.{round, within};
 ghost use Rattle.tree_captures.specs.Views.{told, sight, Tells, captures};
+ghost use Rattle.tree_captures.specs.declared.reach.Reach.TheVariants.{Each};
 ghost use Rattle.tree_leaves.specs.Leaves.{leaf_tree};
 ghost use Rattle.tree_visit.specs.Kinds.{kind_label};
 ghost use Rattle.tree_visit.specs.Nodes.{node_tree, children_forest};
 
-use crate::scopes::{Place, Scopes};
+use crate::scopes::{Place, Scopes, own_table};
 use crate::table::Table;
 use std::alloc::{AllocError, Global};
 use swc_ast::{Ident, Module, Script};
@@ -41,7 +43,7 @@ pub(crate) struct Seen<'a> {
 pub fn first_fault(alloc: Global, m: &Module) -> Result<Option<Fault<'_>>, AllocError>
     ensures { IfOk result (Tells (captured no_scope (module_tree m.now)) (valid (module_tree m.now))) }
 {
-    let seen = first_in(Node::Module(m), &mut Table::new(alloc), true, alloc)?;
+    let seen = first_in_whole(Node::Module(m), alloc)?;
     Ok(fault_of(seen))
 }
 
@@ -49,7 +51,7 @@ pub fn first_fault(alloc: Global, m: &Module) -> Result<Option<Fault<'_>>, Alloc
 pub fn first_fault_of_script(alloc: Global, s: &Script) -> Result<Option<Fault<'_>>, AllocError>
     ensures { IfOk result (Tells (captured no_scope (script_tree s.now)) (valid (script_tree s.now))) }
 {
-    let seen = first_in(Node::Script(s), &mut Table::new(alloc), true, alloc)?;
+    let seen = first_in_whole(Node::Script(s), alloc)?;
     Ok(fault_of(seen))
 }
 
@@ -68,6 +70,19 @@ fn fault_of<'a>(s: Seen<'a>) -> Option<Fault<'a>>
             }
         }
     }
+}
+
+/// The first captured name of a node that no scope is round and whose own scope is round each of its children, and whether the
+/// node is valid. Its own scope is open from the start and to the end.
+fn first_in_whole<'a>(n: Node<'a>, alloc: Global) -> Result<Seen<'a>, AllocError>
+    requires { label_reach (label_of (node_tree n)) ≡ Each }
+    ensures { IfOk result (λ s. sight s ≡ seen (captured no_scope (node_tree n.entry)) (valid (node_tree n.entry))) }
+{
+    let opened = n.open();
+    let mut table = own_table(opened.kind, opened.children, alloc)?;
+    let is_good = stays_valid(true, opened.kind, opened.children);
+    let scopes = Scopes::none(opened.kind, opened.children, alloc);
+    first_below(scopes, opened.children, &mut table, is_good, alloc)
 }
 
 /// The first captured name of a node, and whether the node is valid where those in front are. Where none is captured, the table
@@ -110,7 +125,7 @@ fn leaf_seen<'a>(leaf: Leaf<'a>, table: &Table<'a>, is_valid: bool) -> Seen<'a>
 /// The same of what is neither a name nor a literal, by what the node is and its children.
 #[inline(never)]
 #[cycle(captures)]
-#[tactic(auto, using(crate::proofs::First::children_fall, crate::proofs::First::found_here, crate::proofs::First::found_below))]
+#[tactic(auto, using(crate::proofs::First::children_fall, crate::proofs::First::found_here))]
 fn first_in_opened<'a>(
     n: Node<'a>,
     table: &mut Table<'a>,
@@ -129,24 +144,25 @@ fn first_in_opened<'a>(
         });
     }
     let is_good = stays_valid(is_valid, opened.kind, opened.children);
-    first_below(opened.kind, opened.children, table, is_good, alloc)
+    let scopes = Scopes::of(opened.kind, opened.children, alloc);
+    first_below(scopes, opened.children, table, is_good, alloc)
 }
 
-/// The same among the children of a node.
+/// The same among the children of a node, given its scopes, none of which is open.
 #[cycle(captures)]
 #[inline(always)]
 #[tactic(auto, using(swc_resolved::proofs::Sizes::rest_within, crate::proofs::First::child_falls, crate::proofs::First::found_among, crate::proofs::First::ends))]
 fn first_below<'a>(
-    kind: Kind<'a>,
+    mut scopes: Scopes<'a>,
     children: Children<'a>,
     table: &mut Table<'a>,
     is_valid: bool,
     alloc: Global,
 ) -> Result<Seen<'a>, AllocError>
-    ensures sight { IfOk result (λ s. sight s ≡ seen (captured_in (inside (kind_label kind.entry) (children_forest children.entry) (captures table.old)) (children_forest children.entry)) (is_valid && valid_all (children_forest children.entry))) }
+    requires { captures table.old ≡ round scopes table.old }
+    ensures sight { IfOk result (λ s. sight s ≡ seen (captured_in (within scopes.entry (captures table.old)) (children_forest children.entry)) (is_valid && valid_all (children_forest children.entry))) }
     ensures kept { IfOk result (λ s. s.captured ≡ None → captures table.new ≡ captures table.old) }
 {
-    let mut scopes = Scopes::of(kind, children, alloc);
     let mut place = Place::First;
     let mut left = children;
     let mut so_far = is_valid;

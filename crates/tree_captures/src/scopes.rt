@@ -1,10 +1,10 @@
 //! The scopes of a node that are open while its children are walked.
-ghost use Rattle.std.specs.Prelude.{◌≡◌, if◌then◌else◌, ◌++◌, [], OnOk};
+ghost use Rattle.std.specs.Prelude.{◌≡◌, if◌then◌else◌, ◌++◌, [], IfOk, OnOk};
 ghost use Rattle.swc_ast.specs.Resolved.{has_default as has_default_among, params_of};
 ghost use Rattle.swc_resolved.specs.Names.{names as names_of};
 ghost use Rattle.swc_resolved.specs.Scopes.{own_names};
-ghost use Rattle.tree_captures.specs.Captured.{inside, round_params, with_body, with_scope};
-ghost use Rattle.tree_captures.specs.Places.{at, before, next, round, within};
+ghost use Rattle.tree_captures.specs.Captured.{each, inside, no_scope, round_params, with_body, with_scope};
+ghost use Rattle.tree_captures.specs.Places.{SameNode, at, before, next, round, within};
 ghost use Rattle.tree_captures.specs.Views.{captures};
 ghost use Rattle.tree_visit.specs.Kinds.{kind_label};
 ghost use Rattle.tree_visit.specs.Nodes.{children_forest};
@@ -40,6 +40,19 @@ impl Place {
     }
 }
 
+/// The table inside the scope of a node's own names, where no other scope is round the node. Fails where memory is refused.
+pub(crate) fn own_table<'a>(
+    kind: Kind<'a>,
+    children: Children<'a>,
+    alloc: Global,
+) -> Result<Table<'a>, AllocError>
+    ensures { IfOk result (λ t. captures t ≡ with_scope (own_names (kind_label kind.entry) (children_forest children.entry)) no_scope) }
+{
+    let mut names = Vec::new(alloc);
+    add_own_names(&mut names, kind, children)?;
+    Table::with(&names, alloc)
+}
+
 /// The scopes of a node, and what texts stood for outside those that are open.
 #[derive(Drop)]
 pub(crate) struct Scopes<'a> {
@@ -62,6 +75,16 @@ impl<'a> Scopes<'a> {
             children,
             outer: Vec::new(alloc),
         }
+    }
+
+    /// None: the children of a node stand in the scopes that are open.
+    pub(crate) fn none(kind: Kind<'a>, children: Children<'a>, alloc: Global) -> Scopes<'a>
+        ensures within { within result ≡ each }
+        ensures outer { result.outer.items ≡ [] }
+    {
+        let mut scopes = Scopes::of(kind, children, alloc);
+        scopes.reach = Reach::Nothing;
+        scopes
     }
 
     /// Goes to the child at a place from the one in front of it: closes and opens scopes. Fails where memory is refused.
@@ -121,9 +144,7 @@ impl<'a> Scopes<'a> {
     ) -> Result<(), AllocError>
         ensures opened { OnOk result (captures table.new ≡ with_scope (names_of names.now) (captures table.old)) }
         ensures round { OnOk result (round self.new table.new ≡ round self.old table.old) }
-        ensures reach { self.new.reach ≡ self.old.reach }
-        ensures kind { self.new.kind ≡ self.old.kind }
-        ensures children { self.new.children ≡ self.old.children }
+        ensures node { SameNode self.old self.new }
     {
         let mut outer = table.open(names, alloc)?;
         if self.outer.is_empty() {
@@ -138,9 +159,7 @@ impl<'a> Scopes<'a> {
     fn open_own(&mut self, table: &mut Table<'a>, alloc: Global) -> Result<(), AllocError>
         ensures opened { OnOk result (captures table.new ≡ with_scope (own_names (kind_label self.old.kind) (children_forest self.old.children)) (captures table.old)) }
         ensures round { OnOk result (round self.new table.new ≡ round self.old table.old) }
-        ensures reach { self.new.reach ≡ self.old.reach }
-        ensures kind { self.new.kind ≡ self.old.kind }
-        ensures children { self.new.children ≡ self.old.children }
+        ensures node { SameNode self.old self.new }
     {
         let mut names = Vec::new(alloc);
         add_own_names(&mut names, self.kind, self.children)?;
@@ -151,9 +170,7 @@ impl<'a> Scopes<'a> {
     fn open_params(&mut self, table: &mut Table<'a>, alloc: Global) -> Result<(), AllocError>
         ensures opened { OnOk result (captures table.new ≡ round_params (children_forest self.old.children) (captures table.old)) }
         ensures round { OnOk result (round self.new table.new ≡ round self.old table.old) }
-        ensures reach { self.new.reach ≡ self.old.reach }
-        ensures kind { self.new.kind ≡ self.old.kind }
-        ensures children { self.new.children ≡ self.old.children }
+        ensures node { SameNode self.old self.new }
     {
         let params = half_of(self.children, Half::Params);
         let mut names = Vec::new(alloc);
@@ -169,9 +186,7 @@ impl<'a> Scopes<'a> {
     fn open_body(&mut self, table: &mut Table<'a>, alloc: Global) -> Result<(), AllocError>
         ensures opened { OnOk result (captures table.new ≡ (if has_default_among (params_of (children_forest self.old.children)) then with_body (children_forest self.old.children) (captures table.old) else captures table.old)) }
         ensures round { OnOk result (round self.new table.new ≡ round self.old table.old) }
-        ensures reach { self.new.reach ≡ self.old.reach }
-        ensures kind { self.new.kind ≡ self.old.kind }
-        ensures children { self.new.children ≡ self.old.children }
+        ensures node { SameNode self.old self.new }
     {
         if !has_default(half_of(self.children, Half::Params)) {
             return Ok(());

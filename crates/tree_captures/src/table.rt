@@ -44,13 +44,14 @@ pub(crate) struct Table<'a> {
 }
 
 impl<'a> Table<'a> {
-    /// Outside all scopes.
-    pub(crate) fn new(alloc: Global) -> Table<'a>
-        ensures { captures result ≡ no_scope }
+    /// Inside one scope, which binds some names. Fails where memory is refused.
+    pub(crate) fn with(names: &[Name<'a>], alloc: Global) -> Result<Table<'a>, AllocError>
+        ensures { IfOk result (λ t. captures t ≡ with_scope (names_of names.now) no_scope) }
     {
-        Table {
-            known: HashMap::new(alloc),
-        }
+        let known = HashMap::with_capacity(alloc, names.len())?;
+        let mut table = Table { known };
+        table.put_in(names, alloc)?;
+        Ok(table)
     }
 
     /// Whether the innermost scope that binds a name's text doesn't bind the name.

@@ -3,11 +3,14 @@ use Rattle.std.proofs.lemmas.Bool.{not-true}
 use Rattle.swc_resolved.specs.Names.{name, names, members}
 use Rattle.swc_ast.specs.Core.{once_each}
 use Rattle.swc_ast.specs.Scope.{has_name}
+use Rattle.swc_ast.specs.Tree.{Name}
 use Rattle.swc_resolved.proofs.Once.{nobody, once_step, all_step, one_starts, one_ends, all_found}
 use Rattle.swc_resolved.proofs.distinct.set_of.Goals as goal
 
 pub loop-left-init : goal.loop-left-init
-loop-left-init c = (one_starts (members c.new-set.result) (names c.args.names.now) c.new-set.ensures, λ y. ap (λ ms. has_name y ms || has_name y (names c.args.names.now)) c.new-set.ensures)
+loop-left-init c =
+    let none = λ (y : Name). c.make_room.ensures y ∙ ap (has_name y) c.new-set.ensures in
+    (one_starts (members c.make_room.new.self) (names c.args.names.now) none, λ y. ap (λ b. b || has_name y (names c.args.names.now)) (none y))
 
 pub loop-left-preserved : goal.loop-left-preserved
 loop-left-preserved c = (
