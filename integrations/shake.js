@@ -100,13 +100,14 @@ function faultOf(said, text) {
     return new ShakeError(`shake: ${said}`);
 }
 
-// A tree has millions of small nodes. With memory in pages of 2 MB, which Linux gives a program that asks for them, the program
-// takes up to a fifth less time (docs/BENCH.md). glibc asks for them where this variable says so; other systems don't read it.
-const LARGE_PAGES = 'glibc.malloc.hugetlb=1:glibc.malloc.top_pad=67108864';
+// A tree has millions of small nodes. With memory in pages of 2 MB, which Linux gives a program that asks for them, and with
+// thousands of freed nodes of each size at hand for new ones, the program takes up to a quarter less time (docs/BENCH.md). glibc
+// does so where this variable says it; other systems don't read it.
+const MEMORY = 'glibc.malloc.hugetlb=1:glibc.malloc.top_pad=67108864:glibc.malloc.tcache_count=4000';
 
-/** Returns the variables that the program is started with: those of this process, and what asks for large pages unless it is set. */
+/** Returns the variables that the program is started with: those of this process, and what asks for memory so unless it is set. */
 function environment() {
-    return { GLIBC_TUNABLES: LARGE_PAGES, ...process.env };
+    return { GLIBC_TUNABLES: MEMORY, ...process.env };
 }
 
 /** Runs a command on a text. Returns `{ status, signal, output, errors }`. */

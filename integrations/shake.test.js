@@ -67,12 +67,12 @@ test('a text is simplified, left or refused', async () => {
     await assert.rejects(simplify('f();', { program: path.join(__dirname, 'no-such-program') }), /can't be run/);
 });
 
-test('the program is asked to take large pages, unless the user says otherwise', async () => {
+test('the program is asked to take large pages and to keep what is freed, unless the user says otherwise', async () => {
     const said = process.env.GLIBC_TUNABLES;
     const program = [process.execPath, '-e', 'process.stdout.write(process.env.GLIBC_TUNABLES)'];
     try {
         delete process.env.GLIBC_TUNABLES;
-        assert.match((await simplify('', { program })).code, /\bglibc\.malloc\.hugetlb=1\b/);
+        assert.match((await simplify('', { program })).code, /^glibc\.malloc\.hugetlb=1:.*:glibc\.malloc\.tcache_count=4000$/);
         process.env.GLIBC_TUNABLES = 'glibc.malloc.check=0';
         assert.deepEqual(await simplify('', { program }), { code: 'glibc.malloc.check=0' });
     } finally {
