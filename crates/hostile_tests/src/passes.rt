@@ -1,7 +1,7 @@
 //! Each pass on one tree.
-use std::alloc::Global;
+use std::alloc::{AllocError, Global};
 use std::collections::BTreeMap;
-use std::test::Fail;
+use std::process::Abort;
 use swc_ast::{Mark, Module, PassError, Script};
 use swc_branch::dead_branch_remover;
 use swc_const_modules::const_modules;
@@ -18,54 +18,60 @@ use swc_text::read_expr;
 
 /// Runs a pass on a module and on a script.
 fn runs<P: Pass>(
+    rt: &impl Abort,
     alloc: Global,
     pass: &mut P,
-    module: &Module,
-    script: &Script,
-) -> Result<(), PassError> {
-    pass.run(alloc, module)?;
-    pass.run_script(alloc, script)?;
-    Ok(())
+    (module, script): (&Module, &Script),
+) {
+    pass.run(alloc, module).expect(rt, "a module");
+    pass.run_script(alloc, script).expect(rt, "a script");
 }
 
 /// Runs each pass: each has to return, and none refuses but the two that prepare.
 pub(crate) fn each_runs(
+    rt: &impl Abort,
     alloc: Global,
     mark: Mark,
     module: &Module,
     script: &Script,
-) -> Result<(), Fail> {
-    let config = Config::new(alloc);
-    let mut shaker = dce(config.dce.clone()?, mark);
+) {
+    let whole = (module, script);
+    let mut expressions = expr_simplifier(mark, swc_expr::Config {});
+    runs(rt, alloc, &mut expressions, whole);
+    runs(rt, alloc, &mut dead_branch_remover(mark), whole);
     runs(
+        rt,
         alloc,
-        &mut expr_simplifier(mark, config.expr),
-        module,
-        script,
-    )?;
-    runs(alloc, &mut dead_branch_remover(mark), module, script)?;
-    runs(alloc, &mut shaker, module, script)?;
-    runs(alloc, &mut simplifier(mark, config), module, script)?;
-    runs(alloc, &mut constant_propagation(), module, script)?;
-    let inline = swc_inlining::Config {};
-    runs(alloc, &mut inlining(inline), module, script)?;
+        &mut dce(swc_dce::Config::new(alloc), mark),
+        whole,
+    );
+    runs(rt, alloc, &mut simplifier(mark, Config::new(alloc)), whole);
+    runs(rt, alloc, &mut constant_propagation(), whole);
+    runs(rt, alloc, &mut inlining(swc_inlining::Config {}), whole);
     let mut json = json_parse(0);
-    json.run(alloc, module)?;
-    json.run_script(alloc, script)?;
-    given_runs(alloc, mark, module, script)
+    json.run(alloc, module).expect(rt, "a module");
+    json.run_script(alloc, script).expect(rt, "a script");
+    globals_run(rt, alloc, mark, module, script);
+    imports_run(rt, alloc, mark, module, script);
 }
 
-/// Runs the passes that put what is given. They may refuse a module by what they tell.
-fn given_runs(alloc: Global, mark: Mark, module: &Module, script: &Script) -> Result<(), Fail> {
+/// Runs the pass that puts what is given for names and for chains of members.
+fn globals_run(rt: &impl Abort, alloc: Global, mark: Mark, module: &Module, script: &Script) {
     let mut exprs = GlobalExprMap::new(alloc);
     for (key, value) in [("x", "y(1)"), ("a.b", "[x]"), ("y", "typeof z")] {
-        exprs.insert(read_expr(alloc, key, mark)?, read_expr(alloc, value, mark)?)?;
+        let key = read_expr(alloc, key, mark).expect(rt, "a key");
+        let value = read_expr(alloc, value, mark).expect(rt, "a value");
+        exprs.insert(key, value).expect(rt, "a value");
     }
     let (envs, globals) = (BTreeMap::new(alloc), BTreeMap::new(alloc));
     let typeofs = BTreeMap::new(alloc);
     let mut pass = inline_globals2(&envs, &globals, &exprs, &typeofs).with_mark(mark);
-    pass.run(alloc, module)?;
-    pass.run_script(alloc, script)?;
+    pass.run(alloc, module).expect(rt, "a module");
+    pass.run_script(alloc, script).expect(rt, "a script");
+}
+
+/// The exports of a module.
+fn given(alloc: Global) -> Result<BTreeMap<String, BTreeMap<String, String>>, AllocError> {
     let mut exports = BTreeMap::new(alloc);
     for name in ["a", "default"] {
         let name = String::from_str(alloc, name)?;
@@ -73,12 +79,14 @@ fn given_runs(alloc: Global, mark: Mark, module: &Module, script: &Script) -> Re
     }
     let mut modules = BTreeMap::new(alloc);
     modules.insert(String::from_str(alloc, "m")?, exports)?;
-    let mut pass = const_modules(alloc, &modules, mark)?;
-    match pass.run(alloc, module) {
-        Ok(_) => {}
-        Err(PassError::OutOfMemory) => return Err(PassError::OutOfMemory.into()),
-        Err(_) => {}
-    }
-    pass.run_script(alloc, script)?;
-    Ok(())
+    Ok(modules)
+}
+
+/// Runs the pass that puts what is given for imports. It may refuse a module by what it tells.
+fn imports_run(rt: &impl Abort, alloc: Global, mark: Mark, module: &Module, script: &Script) {
+    let modules = given(alloc).expect(rt, "exports");
+    let mut pass = const_modules(alloc, &modules, mark).expect(rt, "a pass");
+    let refusal = pass.run(alloc, module).err();
+    assert!(rt; refusal != Some(PassError::OutOfMemory));
+    pass.run_script(alloc, script).expect(rt, "a script");
 }

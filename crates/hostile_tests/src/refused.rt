@@ -3,12 +3,11 @@
 use std::alloc::{AllocError, Global};
 use std::collections::BTreeMap;
 use std::process::Abort;
-use std::test::Fail;
 use swc_ast::{DUMMY_SP, Expr, Lit, Mark, Module, PassError, Str};
 use swc_const_modules::{ConstModules, const_modules};
 use swc_const_propagation::constant_propagation;
 use swc_expr_map::GlobalExprMap;
-use swc_inline_globals::inline_globals;
+use swc_inline_globals::{InlineGlobals, inline_globals};
 use swc_inlining::inlining;
 use swc_json_parse::json_parse;
 use swc_optimization::{Config, simplifier};
@@ -17,84 +16,90 @@ use swc_text::{PrintError, ReadError, print, read_expr, read_module};
 use test_trees::number;
 
 /// What a text is read as.
-fn read(rt: &impl Abort, alloc: Global, text: &str) -> Result<Module, ReadError> {
+fn read(rt: &impl Abort, alloc: Global, text: &str) -> Module {
     let mark = Mark::new(1).expect(rt, "1 is a mark");
     match read_module(alloc, text, mark) {
+        Ok(module) => module,
         Err(error) => {
             assert!(rt; error == ReadError::OutOfMemory, "{text}");
-            read_module(alloc, text, mark)
+            read_module(alloc, text, mark).expect(rt, text)
         }
-        read => read,
     }
 }
 
-fn read_value(rt: &impl Abort, alloc: Global, text: &str) -> Result<Expr, ReadError> {
+fn read_value(rt: &impl Abort, alloc: Global, text: &str) -> Expr {
     let mark = Mark::new(1).expect(rt, "1 is a mark");
     match read_expr(alloc, text, mark) {
+        Ok(e) => e,
         Err(error) => {
             assert!(rt; error == ReadError::OutOfMemory, "{text}");
-            read_expr(alloc, text, mark)
+            read_expr(alloc, text, mark).expect(rt, text)
         }
-        read => read,
     }
 }
 
-fn copied(module: &Module) -> Result<Module, AllocError> {
-    let copy: Result<Module, AllocError> = module.clone();
-    if copy.is_ok() {
-        return copy;
-    }
+fn clone_of(module: &Module) -> Result<Module, AllocError> {
     Ok(module.clone()?)
 }
 
-/// Whether a module is printed as a text.
-fn is_printed(rt: &impl Abort, alloc: Global, m: &Module, wanted: &str) -> Result<bool, Fail> {
-    let printed = match print(alloc, m) {
+fn copied(rt: &impl Abort, module: &Module) -> Module {
+    match clone_of(module) {
+        Ok(copy) => copy,
+        Err(_) => clone_of(module).expect(rt, "a copy"),
+    }
+}
+
+/// Tries what a module is printed as.
+fn shows(rt: &impl Abort, alloc: Global, module: &Module, wanted: &str) {
+    let printed = match print(alloc, module) {
         Ok(text) => text,
         Err(error) => {
             assert!(rt; error == PrintError::OutOfMemory, "{wanted}");
-            print(alloc, m)?
+            print(alloc, module).expect(rt, wanted)
         }
     };
-    Ok(printed.as_str() == wanted)
+    assert_eq!(rt; printed.as_str(), wanted);
 }
 
 /// A text, and what a pass makes of it.
 type Row = (&'static str, &'static str);
 
+/// Runs a pass on a module, and again where it is refused.
+fn ran<P: Pass>(rt: &impl Abort, alloc: Global, pass: &mut P, module: &Module) -> Module {
+    match pass.run(alloc, module) {
+        Ok(answer) => answer,
+        Err(error) => {
+            assert!(rt; error == PassError::OutOfMemory && !pass.changed());
+            pass.run(alloc, module).expect(rt, "an answer")
+        }
+    }
+}
+
 /// Runs a pass on texts, and again where it is refused.
-fn tries<P: Pass>(rt: &impl Abort, alloc: Global, pass: &mut P, rows: &[Row]) -> Result<(), Fail> {
+fn tries<P: Pass>(rt: &impl Abort, alloc: Global, pass: &mut P, rows: &[Row]) {
     for (text, wanted) in rows {
-        let module = read(rt, alloc, text)?;
-        let before = copied(&module)?;
-        let answer = match pass.run(alloc, &module) {
-            Ok(answer) => answer,
-            Err(error) => {
-                assert!(rt; error == PassError::OutOfMemory, "{text}");
-                assert!(rt; !pass.changed() && module == before, "{text}");
-                pass.run(alloc, &module)?
-            }
-        };
-        assert!(rt; is_printed(rt, alloc, &answer, *wanted)?, "{text}");
+        let module = read(rt, alloc, text);
+        let before = copied(rt, &module);
+        let answer = ran(rt, alloc, pass, &module);
+        shows(rt, alloc, &answer, wanted);
         assert!(rt; module == before, "{text}");
     }
-    Ok(())
 }
 
 #[test]
-fn passes_are_refused_and_run_again(rt: HostRuntime) -> Result<(), Fail> {
+fn passes_are_refused_and_run_again(rt: HostRuntime) {
     let alloc = rt.alloc();
     let rows: [Row; 1] = [("const a = 1; f(a); x = a;", "const a = 1;\nf(1);\nx = a;\n")];
-    tries(&rt, alloc, &mut constant_propagation(), &rows)?;
+    tries(&rt, alloc, &mut constant_propagation(), &rows);
     let rows: [Row; 1] = [(
         "let a = 'x'; f(a); if (c) { var v = 1; } f(v);",
         "let a = 'x';\nf('x');\nif (c) { var v = 1; }\nf(v);\n",
     )];
-    tries(&rt, alloc, &mut inlining(swc_inlining::Config {}), &rows)
+    tries(&rt, alloc, &mut inlining(swc_inlining::Config {}), &rows);
 }
 
 #[test]
-fn the_simplifier_is_refused_and_runs_again(rt: HostRuntime) -> Result<(), Fail> {
+fn the_simplifier_is_refused_and_runs_again(rt: HostRuntime) {
     let alloc = rt.alloc();
     let mark = Mark::new(1).expect(&rt, "1 is a mark");
     let rows: [Row; 5] = [
@@ -110,38 +115,36 @@ fn the_simplifier_is_refused_and_runs_again(rt: HostRuntime) -> Result<(), Fail>
             "g();\n",
         ),
     ];
-    tries(&rt, alloc, &mut simplifier(mark, Config::new(alloc)), &rows)
+    tries(&rt, alloc, &mut simplifier(mark, Config::new(alloc)), &rows);
 }
 
 /// A refused run tells of no round.
 #[test]
-fn no_round_is_told_of_a_refused_run(rt: HostRuntime) -> Result<(), Fail> {
+fn no_round_is_told_of_a_refused_run(rt: HostRuntime) {
     let alloc = rt.alloc();
     let mark = Mark::new(1).expect(&rt, "1 is a mark");
     let mut pass = simplifier(mark, Config::new(alloc));
-    let module = read(&rt, alloc, "let x; x = 1; f();")?;
+    let module = read(&rt, alloc, "let x; x = 1; f();");
     if pass.run(alloc, &module).is_err() {
         assert!(rt; pass.rounds() == 0 && !pass.reached() && !pass.changed());
-        pass.run(alloc, &module)?;
+        pass.run(alloc, &module).expect(&rt, "an answer");
     }
     assert!(rt; pass.rounds() == 3 && pass.reached() && pass.changed());
-    Ok(())
 }
 
 #[test]
-fn literals_are_refused_and_taken_then(rt: HostRuntime) -> Result<(), Fail> {
+fn literals_are_refused_and_taken_then(rt: HostRuntime) {
     let alloc = rt.alloc();
-    let module = read(&rt, alloc, "f({b: 1, a: 2});")?;
+    let module = read(&rt, alloc, "f({b: 1, a: 2});");
     let mut pass = json_parse(13);
     let answer = match pass.run(alloc, &module) {
         Ok(answer) => answer,
         Err(error) => {
             assert!(rt; error == PassError::OutOfMemory && !pass.changed());
-            pass.run(alloc, &module)?
+            pass.run(alloc, &module).expect(&rt, "an answer")
         }
     };
-    assert!(rt; is_printed(&rt, alloc, &answer, "f(JSON.parse('{\"b\":1,\"a\":2}'));\n")?);
-    Ok(())
+    shows(&rt, alloc, &answer, "f(JSON.parse('{\"b\":1,\"a\":2}'));\n");
 }
 
 /// What is given for a member of `process.env`.
@@ -155,43 +158,40 @@ fn environment(alloc: Global) -> Result<BTreeMap<String, Expr>, PassError> {
     Ok(envs)
 }
 
+/// Runs a pass that puts what is given, and again where it is refused.
+fn put(rt: &impl Abort, alloc: Global, pass: &mut InlineGlobals<'_>, module: &Module) -> Module {
+    match pass.run(alloc, module) {
+        Ok(answer) => answer,
+        Err(error) => {
+            assert!(rt; error == PassError::OutOfMemory && !pass.changed());
+            pass.run(alloc, module).expect(rt, "an answer")
+        }
+    }
+}
+
 #[test]
-fn members_are_refused_and_put_then(rt: HostRuntime) -> Result<(), Fail> {
+fn members_are_refused_and_put_then(rt: HostRuntime) {
     let alloc = rt.alloc();
     let mark = Mark::new(1).expect(&rt, "1 is a mark");
     let envs = match environment(alloc) {
         Ok(envs) => envs,
         Err(error) => {
             assert!(rt; error == PassError::OutOfMemory);
-            environment(alloc)?
+            environment(alloc).expect(&rt, "values")
         }
     };
     let (globals, typeofs) = (BTreeMap::new(alloc), BTreeMap::new(alloc));
-    let module = read(&rt, alloc, "if (process.env.NODE_ENV === 'development') {}")?;
-    let before = copied(&module)?;
+    let module = read(&rt, alloc, "if (process.env.NODE_ENV === 'development') {}");
+    let before = copied(&rt, &module);
     let mut pass = inline_globals(&envs, &globals, &typeofs).with_mark(mark);
-    let answer = match pass.run(alloc, &module) {
-        Ok(answer) => answer,
-        Err(error) => {
-            assert!(rt; error == PassError::OutOfMemory && !pass.changed());
-            pass.run(alloc, &module)?
-        }
-    };
-    assert!(rt;
-        is_printed(
-            &rt,
-            alloc,
-            &answer,
-            "if ('development' === 'development') {}\n"
-        )?
-    );
+    let answer = put(&rt, alloc, &mut pass, &module);
+    let wanted = "if ('development' === 'development') {}\n";
+    shows(&rt, alloc, &answer, wanted);
     assert!(rt; module == before);
-    Ok(())
 }
 
 /// The pass that is given an export.
-fn given(rt: &impl Abort, alloc: Global) -> Result<ConstModules, PassError> {
-    let mark = Mark::new(1).expect(rt, "1 is a mark");
+fn given(alloc: Global, mark: Mark) -> Result<ConstModules, PassError> {
     let mut exports = BTreeMap::new(alloc);
     exports.insert(
         String::from_str(alloc, "A")?,
@@ -213,15 +213,38 @@ fn is_told(error: &PassError, wanted: &str) -> bool {
     }
 }
 
+/// Tries what the pass that is given an export makes of a text, or tells of it, and again where memory is refused.
+fn tries_imports(
+    rt: &impl Abort,
+    alloc: Global,
+    pass: &mut ConstModules,
+    text: &str,
+    wanted: &str,
+) {
+    let module = read(rt, alloc, text);
+    let before = copied(rt, &module);
+    let mut answer = pass.run(alloc, &module);
+    if let Err(PassError::OutOfMemory) = &answer {
+        assert!(rt; !pass.changed(), "{text}");
+        answer = pass.run(alloc, &module);
+    }
+    match answer {
+        Ok(answer) => shows(rt, alloc, &answer, wanted),
+        Err(error) => assert!(rt; is_told(&error, wanted), "{text}"),
+    }
+    assert!(rt; module == before, "{text}");
+}
+
 /// Memory that is refused is told as such, and what the pass refuses of itself is told then.
 #[test]
-fn given_imports_are_refused_and_put_then(rt: HostRuntime) -> Result<(), Fail> {
+fn given_imports_are_refused_and_put_then(rt: HostRuntime) {
     let alloc = rt.alloc();
-    let mut pass = match given(&rt, alloc) {
+    let mark = Mark::new(1).expect(&rt, "1 is a mark");
+    let mut pass = match given(alloc, mark) {
         Ok(pass) => pass,
         Err(error) => {
             assert!(rt; error == PassError::OutOfMemory);
-            given(&rt, alloc)?
+            given(alloc, mark).expect(&rt, "a pass")
         }
     };
     let rows: [Row; 3] = [
@@ -230,25 +253,25 @@ fn given_imports_are_refused_and_put_then(rt: HostRuntime) -> Result<(), Fail> {
         ("import {A as b} from 'env'; export {b};", "b"),
     ];
     for (text, wanted) in rows {
-        let module = read(&rt, alloc, text)?;
-        let before = copied(&module)?;
-        let mut answer = pass.run(alloc, &module);
-        if let Err(PassError::OutOfMemory) = &answer {
-            assert!(rt; !pass.changed(), "{text}");
-            answer = pass.run(alloc, &module);
-        }
-        match answer {
-            Ok(answer) => assert!(rt; is_printed(&rt, alloc, &answer, wanted)?, "{text}"),
-            Err(error) => assert!(rt; is_told(&error, wanted), "{text}"),
-        }
-        assert!(rt; module == before, "{text}");
+        tries_imports(&rt, alloc, &mut pass, text, wanted);
     }
-    Ok(())
+}
+
+/// Puts a value in a map, and again where it is refused.
+fn put_in(rt: &impl Abort, alloc: Global, map: &mut GlobalExprMap, text: &str, before: usize) {
+    let key = read_value(rt, alloc, text);
+    let again = read_value(rt, alloc, text);
+    if let Err(error) = map.insert(read_value(rt, alloc, text), number(1)) {
+        assert!(rt; error == PassError::OutOfMemory, "{text}");
+        assert!(rt; map.len() == before && map.get(&key).is_none(), "{text}");
+        map.insert(again, number(1)).expect(rt, text);
+    }
+    assert!(rt; map.get(&key).is_some(), "{text}");
 }
 
 /// A refused insertion leaves the map, and looking something up takes no memory.
 #[test]
-fn a_refused_insertion_leaves_the_map(rt: HostRuntime) -> Result<(), Fail> {
+fn a_refused_insertion_leaves_the_map(rt: HostRuntime) {
     let alloc = rt.alloc();
     let mut map = GlobalExprMap::new(alloc);
     for (text, before, behind) in [
@@ -257,14 +280,7 @@ fn a_refused_insertion_leaves_the_map(rt: HostRuntime) -> Result<(), Fail> {
         ("a['b']", 2, 3),
         ("y", 3, 4),
     ] {
-        let key = read_value(&rt, alloc, text)?;
-        let again = read_value(&rt, alloc, text)?;
-        if let Err(error) = map.insert(read_value(&rt, alloc, text)?, number(1)) {
-            assert!(rt; error == PassError::OutOfMemory, "{text}");
-            assert!(rt; map.len() == before && map.get(&key).is_none(), "{text}");
-            map.insert(again, number(1))?;
-        }
-        assert!(rt; map.len() == behind && map.get(&key).is_some(), "{text}");
+        put_in(&rt, alloc, &mut map, text, before);
+        assert!(rt; map.len() == behind, "{text}");
     }
-    Ok(())
 }

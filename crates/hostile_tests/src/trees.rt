@@ -1,86 +1,72 @@
 //! Trees that aren't valid, and trees that aren't resolved.
 use crate::passes::each_runs;
 use std::alloc::{AllocError, Global};
-use std::test::Fail;
+use std::process::Abort;
+use swc_ast::VarDeclKind::{Const, Let};
 use swc_ast::{
-    AssignExpr, AssignOp, AssignTarget, BlockStmt, BreakStmt, ContinueStmt, Expr, Invalid,
-    LabeledStmt, Mark, Script, SeqExpr, Stmt, SwitchStmt, Tpl, TryStmt, VarDeclKind, WhileStmt,
+    AssignExpr, AssignOp, AssignTarget, DUMMY_SP, Expr, Mark, Module, Script, Stmt, SwitchStmt, Tpl,
 };
 use swc_debug::is_valid;
 use swc_resolved::is_core_and_resolved;
 use swc_text::{PrintError, print, read_module, read_script};
+use test_trees::Place::{Here, InBlock};
 use test_trees::{
-    block, declare, function, ident, module, number, param, param_with_default, span, statement,
-    word,
+    break_to, continue_to, declare, function, ident, labeled, loop_on, name, nothing, number,
+    param, param_with_default, scope, sequence, statement, try_alone, whole,
 };
 
-fn script(alloc: Global, s: Stmt) -> Result<Script, AllocError> {
-    let body = vec![in alloc; s]?;
-    let span = span();
-    Ok(Script { span, body })
+/// Tries that each pass returns on a tree, which isn't resolved for a mark, or not in the core.
+fn comes_back(rt: &impl Abort, alloc: Global, number: u32, module: &Module, script: &Script) {
+    let mark = Mark::new(number).expect(rt, "a mark");
+    assert!(rt; !is_core_and_resolved(alloc, module, mark).expect(rt, "an answer"));
+    each_runs(rt, alloc, mark, module, script);
 }
 
-fn nothing() -> Expr {
-    let span = span();
-    Expr::Invalid(Invalid { span })
+/// Tries that each pass returns on a statement that isn't valid.
+fn invalid(rt: &impl Abort, alloc: Global, s: Result<Stmt, AllocError>) {
+    let s = s.expect(rt, "a statement");
+    let (module, script) = whole(alloc, s).expect(rt, "a tree");
+    assert!(rt; !is_valid(&module));
+    comes_back(rt, alloc, 1, &module, &script);
+}
+
+/// Tries that each pass returns on a statement that isn't resolved.
+fn unresolved(rt: &impl Abort, alloc: Global, s: Result<Stmt, AllocError>) {
+    let s = s.expect(rt, "a statement");
+    let (module, script) = whole(alloc, s).expect(rt, "a tree");
+    comes_back(rt, alloc, 1, &module, &script);
 }
 
 /// A template of more expressions than texts, and none.
-fn template(alloc: Global) -> Result<Expr, AllocError> {
-    let span = span();
+fn template(alloc: Global) -> Result<Stmt, AllocError> {
+    let span = DUMMY_SP;
     let quasis = Box::new(alloc, Vec::new(alloc))?;
-    let exprs = vec![in alloc; number(1), nothing()]?;
-    Ok(Expr::Tpl(Tpl {
+    let mut exprs = vec![in alloc; number(1)]?;
+    exprs.push(nothing())?;
+    let node = Tpl {
         span,
         quasis,
         exprs,
-    }))
+    };
+    statement(alloc, Expr::Tpl(node))
 }
 
 /// `x = ` nothing, for a name with no context of its own.
-fn assign(alloc: Global) -> Result<Expr, AllocError> {
-    let left = AssignTarget::Ident(ident(alloc, "x", 0)?);
+fn assign(alloc: Global) -> Result<Stmt, AllocError> {
     let right = Box::new(alloc, nothing())?;
+    let left = AssignTarget::Ident(ident(alloc, "x", 0)?);
     let node = AssignExpr {
-        span: span(),
+        span: DUMMY_SP,
         op: AssignOp::Assign,
         left,
         right,
     };
-    Ok(Expr::Assign(Box::new(alloc, node)?))
-}
-
-/// A sequence of no expression.
-fn sequence(alloc: Global) -> Expr {
-    let span = span();
-    let exprs = Vec::new(alloc);
-    Expr::Seq(SeqExpr { span, exprs })
-}
-
-/// `try {}`
-fn try_alone(alloc: Global) -> Result<Stmt, AllocError> {
-    let span = span();
-    let stmts = Vec::new(alloc);
-    let node = TryStmt {
-        span,
-        block: BlockStmt { span, stmts },
-        handler: None,
-        finalizer: None,
-    };
-    Ok(Stmt::Try(Box::new(alloc, node)?))
-}
-
-/// A loop on a declaration of a name, as no text has it.
-fn loop_on(alloc: Global, kind: VarDeclKind) -> Result<Stmt, AllocError> {
-    let span = span();
-    let test = Box::new(alloc, number(1))?;
-    let body = Box::new(alloc, declare(alloc, kind, 2)?)?;
-    Ok(Stmt::While(WhileStmt { span, test, body }))
+    statement(alloc, Expr::Assign(Box::new(alloc, node)?))
 }
 
 /// A switch on nothing, without cases.
 fn switch(alloc: Global) -> Result<Stmt, AllocError> {
-    let span = span();
+    let span = DUMMY_SP;
     let discriminant = Box::new(alloc, nothing())?;
     let cases = Vec::new(alloc);
     Ok(Stmt::Switch(SwitchStmt {
@@ -90,87 +76,49 @@ fn switch(alloc: Global) -> Result<Stmt, AllocError> {
     }))
 }
 
-/// Statements that aren't valid.
-fn invalid(alloc: Global) -> Result<Vec<Stmt>, AllocError> {
-    let mut stmts = vec![in alloc;
-        statement(alloc, nothing())?,
-        statement(alloc, sequence(alloc))?,
-        statement(alloc, template(alloc)?)?,
-        statement(alloc, assign(alloc)?)?,
-        try_alone(alloc)?,
-        loop_on(alloc, VarDeclKind::Let)?,
-        loop_on(alloc, VarDeclKind::Const)?,
-        switch(alloc)?,
-    ]?;
-    for text in ["class", "", "1a", "a-b"] {
-        stmts.push(statement(alloc, Expr::Ident(ident(alloc, text, 1)?))?)?;
-    }
-    Ok(stmts)
-}
-
-fn jump(alloc: Global, label: &str, leaves: bool) -> Result<Stmt, AllocError> {
-    let label = Some(word(alloc, label)?);
-    let span = span();
-    Ok(if leaves {
-        Stmt::Break(BreakStmt { span, label })
-    } else {
-        Stmt::Continue(ContinueStmt { span, label })
-    })
-}
-
-fn labeled(alloc: Global, body: Stmt) -> Result<Stmt, AllocError> {
-    let label = word(alloc, "a")?;
-    let body = Box::new(alloc, body)?;
-    let span = span();
-    Ok(Stmt::Labeled(LabeledStmt { span, label, body }))
-}
-
-/// Statements that aren't resolved: jumps without targets, and names that scopes share or bind beside their marks.
-fn unresolved(alloc: Global) -> Result<Vec<Stmt>, AllocError> {
-    let inner = block(vec![in alloc; declare(alloc, VarDeclKind::Let, 2)?]?);
-    let same = vec![in alloc; declare(alloc, VarDeclKind::Let, 2)?, inner]?;
-    let params = vec![in alloc;
-        param(alloc, 3)?,
-        param(alloc, 3)?,
-        param_with_default(alloc, 3)?,
-    ]?;
-    let body = vec![in alloc;
-        declare(alloc, VarDeclKind::Let, 3)?,
-        jump(alloc, "a", true)?,
-    ]?;
-    Ok(vec![in alloc;
-        jump(alloc, "a", true)?,
-        jump(alloc, "a", false)?,
-        labeled(alloc, labeled(alloc, jump(alloc, "b", false)?)?)?,
-        labeled(alloc, function(alloc, params, body)?)?,
-        block(same),
-        declare(alloc, VarDeclKind::Let, 0)?,
-        declare(alloc, VarDeclKind::Const, 1)?,
-    ]?)
-}
-
 #[test]
-fn invalid_trees_come_back(rt: HostRuntime) -> Result<(), Fail> {
+fn invalid_trees_come_back(rt: HostRuntime) {
     let alloc = rt.alloc();
-    let mark = Mark::new(1).expect(&rt, "1 is a mark");
-    for s in invalid(alloc)? {
-        let (a, b) = (module(alloc, s.clone()?)?, script(alloc, s)?);
-        assert!(rt; !is_valid(&a));
-        each_runs(alloc, mark, &a, &b)?;
+    invalid(&rt, alloc, statement(alloc, nothing()));
+    invalid(&rt, alloc, sequence(alloc, 0));
+    invalid(&rt, alloc, template(alloc));
+    invalid(&rt, alloc, assign(alloc));
+    invalid(&rt, alloc, try_alone(alloc));
+    invalid(&rt, alloc, loop_on(alloc, Let));
+    invalid(&rt, alloc, loop_on(alloc, Const));
+    invalid(&rt, alloc, switch(alloc));
+    for word in ["class", "", "1a", "a-b"] {
+        invalid(&rt, alloc, name(alloc, word));
     }
-    Ok(())
 }
 
+/// `a: a: continue b;`
+fn jump_on(alloc: Global) -> Result<Stmt, AllocError> {
+    labeled(alloc, labeled(alloc, continue_to(alloc, "b")?)?)
+}
+
+/// `a: function f(x, x, x = 1) { let x; break a; }`, of one name.
+fn function_of_one(alloc: Global) -> Result<Stmt, AllocError> {
+    let mut params = vec![in alloc; param(alloc, 3)?]?;
+    params.push(param(alloc, 3)?)?;
+    params.push(param_with_default(alloc, 3)?)?;
+    let mut stmts = vec![in alloc; declare(alloc, Let, 3)?]?;
+    stmts.push(break_to(alloc, "a")?)?;
+    labeled(alloc, function(alloc, params, stmts)?)
+}
+
+/// Jumps without targets, and names that scopes share or bind beside their marks.
 #[test]
-fn unresolved_trees_come_back(rt: HostRuntime) -> Result<(), Fail> {
+fn unresolved_trees_come_back(rt: HostRuntime) {
     let alloc = rt.alloc();
-    let mark = Mark::new(1).expect(&rt, "1 is a mark");
-    for s in unresolved(alloc)? {
-        let (a, b) = (module(alloc, s.clone()?)?, script(alloc, s)?);
-        assert!(rt; !is_core_and_resolved(alloc, &a, mark)?);
-        each_runs(alloc, mark, &a, &b)?;
-    }
-    Ok(())
+    unresolved(&rt, alloc, break_to(alloc, "a"));
+    unresolved(&rt, alloc, continue_to(alloc, "a"));
+    unresolved(&rt, alloc, jump_on(alloc));
+    unresolved(&rt, alloc, function_of_one(alloc));
+    let twice = scope(alloc, &[(Here, Let, 2), (InBlock, Let, 2)]);
+    unresolved(&rt, alloc, twice);
+    unresolved(&rt, alloc, declare(alloc, Let, 0));
+    unresolved(&rt, alloc, declare(alloc, Const, 1));
 }
 
 /// A text that binds names in each way.
@@ -181,23 +129,20 @@ const BINDS: &str =
 
 /// Names are resolved for one mark alone: for another one what no scope binds isn't told from what one does.
 #[test]
-fn trees_of_another_mark_come_back(rt: HostRuntime) -> Result<(), Fail> {
+fn trees_of_another_mark_come_back(rt: HostRuntime) {
     let alloc = rt.alloc();
     let first = Mark::new(1).expect(&rt, "1 is a mark");
-    let a = read_module(alloc, BINDS, first)?;
-    let b = read_script(alloc, BINDS, first)?;
+    let module = read_module(alloc, BINDS, first).expect(&rt, "a module");
+    let script = read_script(alloc, BINDS, first).expect(&rt, "a script");
     for number in [2, 3] {
-        let mark = Mark::new(number).expect(&rt, "a mark");
-        assert!(rt; !is_core_and_resolved(alloc, &a, mark)?);
-        each_runs(alloc, mark, &a, &b)?;
+        comes_back(&rt, alloc, number, &module, &script);
     }
-    Ok(())
 }
 
 #[test]
-fn an_invalid_expression_is_not_printed(rt: HostRuntime) -> Result<(), Fail> {
+fn an_invalid_expression_is_not_printed(rt: HostRuntime) {
     let alloc = rt.alloc();
-    let refusal = print(alloc, &module(alloc, statement(alloc, nothing())?)?).err();
-    assert!(rt; refusal == Some(PrintError::Invalid));
-    Ok(())
+    let s = statement(alloc, nothing()).expect(&rt, "a statement");
+    let (module, _script) = whole(alloc, s).expect(&rt, "a tree");
+    assert!(rt; print(alloc, &module).err() == Some(PrintError::Invalid));
 }

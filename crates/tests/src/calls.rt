@@ -1,138 +1,156 @@
 //! Public calls that no text reaches.
+use crate::texts::{read, retaining, tells, unresolved, value};
 use std::alloc::Global;
 use std::mem;
 use std::process::Abort;
-use std::test::Fail;
 use stmt_like::StmtLike;
-use swc_ast::{BinExpr, BinaryOp, Expr, Mark, ModuleItem, Stmt, SyntaxContext};
+use swc_ast::{
+    DUMMY_SP, Decl, EqIgnoreSpan, Expr, Id, Lit, Mark, ModuleItem, Number, Stmt, SyntaxContext,
+};
 use swc_branch::dead_branch_remover;
 use swc_dce::dce;
 use swc_expr::expr_simplifier;
 use swc_names::{Names, collect_decls, find_pat_ids};
-use swc_optimization::{Config, simplifier};
-use swc_pass::{CompilerPass, Pass};
-use swc_text::{print, read_expr, read_module, read_script};
+use swc_optimization::simplifier;
+use swc_pass::{CompilerPass, Pass, Repeated};
+use swc_text::read_script;
 use swc_utils::{ExprCtx, ExprExt, Value, preserve_effects};
-use test_trees::{module, number, param, param_with_default, span, statement};
 
-/// Tries what a pass tells of itself, before and behind a run.
-fn tries<P: Pass + CompilerPass>(
-    rt: &impl Abort,
-    alloc: Global,
-    pass: &mut P,
-    name: &str,
-    (text, wanted): (&str, &str),
-) -> Result<(), Fail> {
-    let mark = Mark::new(1).expect(rt, "1 is a mark");
-    assert_eq!(rt; pass.name(), name);
-    assert!(rt; pass.mark() == Some(mark) && pass.lowers() && !pass.changed());
-    let answer = pass.run(alloc, &read_module(alloc, text, mark)?)?;
-    assert_eq!(rt; print(alloc, &answer)?.as_str(), wanted);
-    assert!(rt; pass.changed());
-    pass.reset();
-    assert!(rt; !pass.changed());
-    Ok(())
+#[test]
+fn passes_tell_of_themselves(rt: HostRuntime) {
+    let alloc = rt.alloc();
+    let mark = unresolved(&rt);
+    let mut pass = expr_simplifier(mark, swc_expr::Config::default());
+    assert!(rt; pass.name() == "simplify-expr");
+    tells(&rt, alloc, &mut pass, Some(mark), ("1 + 2;", "3;\n"));
+    let mut pass = dead_branch_remover(mark);
+    assert!(rt; pass.name() == "branch");
+    tells(&rt, alloc, &mut pass, Some(mark), ("if (0) f();", ""));
 }
 
 #[test]
-fn passes_tell_of_themselves(rt: HostRuntime) -> Result<(), Fail> {
+fn passes_with_options_tell_of_themselves(rt: HostRuntime) {
     let alloc = rt.alloc();
-    let mark = Mark::new(1).expect(&rt, "1 is a mark");
-    let mut config = Config::new(alloc);
-    let mut pass = expr_simplifier(mark, config.expr);
-    tries(&rt, alloc, &mut pass, "simplify-expr", ("1 + 2;", "3;\n"))?;
-    let mut pass = dead_branch_remover(mark);
-    tries(&rt, alloc, &mut pass, "branch", ("if (0) f();", ""))?;
-    config.dce.top_retain.push(String::from_str(alloc, "p")?)?;
-    let mut pass = dce(config.dce.clone()?, mark);
+    let mark = unresolved(&rt);
+    let config = retaining(alloc, "p").expect(&rt, "options");
+    let copy = config.dce.clone().expect(&rt, "a copy");
+    assert!(rt; copy == config.dce);
+    let mut pass = dce(copy, mark);
+    assert!(rt; pass.name() == "tree-shaker");
     let texts = ("let a = 1, p = 2;", "let p = 2;\n");
-    tries(&rt, alloc, &mut pass, "tree-shaker", texts)?;
+    tells(&rt, alloc, &mut pass, Some(mark), texts);
     let passes = simplifier(mark, config);
     assert!(rt; passes.rounds() == 0 && !passes.reached() && !passes.changed());
-    Ok(())
 }
 
-/// Numbers that stand nowhere may become longer ones.
-#[test]
-fn the_length_rule_asks_nothing_of_what_stands_nowhere(rt: HostRuntime) -> Result<(), Fail> {
-    let alloc = rt.alloc();
-    let mark = Mark::new(1).expect(&rt, "1 is a mark");
-    let power = Expr::Bin(BinExpr {
-        span: span(),
-        op: BinaryOp::Exp,
-        left: Box::new(alloc, number(7))?,
-        right: Box::new(alloc, number(9))?,
-    });
-    let module = module(alloc, statement(alloc, power)?)?;
-    let mut pass = expr_simplifier(mark, swc_expr::Config::default());
-    let answer = pass.run(alloc, &module)?;
-    assert_eq!(rt; print(alloc, &answer)?.as_str(), "40353607;\n");
-    Ok(())
-}
-
-#[test]
-fn effects_are_kept(rt: HostRuntime) -> Result<(), Fail> {
-    let alloc = rt.alloc();
-    let mark = Mark::new(1).expect(&rt, "1 is a mark");
-    let ctx = ExprCtx {
-        unresolved_ctxt: SyntaxContext::empty().apply_mark(mark),
-        is_unresolved_ref_safe: false,
+/// What is kept of the arguments of a call in front of 3.
+fn kept(rt: &impl Abort, alloc: Global, ctx: &ExprCtx, call: &str) -> Expr {
+    let mut call = value(rt, alloc, call);
+    let parts = match &mut call {
+        Expr::Call(n) => mem::replace(&mut n.args, Vec::new(alloc)),
+        _ => Vec::new(alloc),
     };
-    let parts = vec![in alloc;
-        read_expr(alloc, "f()", mark)?,
-        read_expr(alloc, "typeof x", mark)?,
-        number(1),
-    ]?;
-    for (parts, wanted) in [
-        (parts, "f(), typeof x, 3;\n"),
-        (vec![in alloc; number(1)]?, "3;\n"),
-    ] {
-        let answer = preserve_effects(alloc, &ctx, span(), number(3), parts)?;
-        let module = module(alloc, statement(alloc, answer)?)?;
-        assert_eq!(rt; print(alloc, &module)?.as_str(), wanted);
+    let last = value(rt, alloc, "3");
+    preserve_effects(alloc, ctx, DUMMY_SP, last, parts).expect(rt, "what is kept")
+}
+
+/// What questions are asked about.
+fn context(rt: &impl Abort) -> ExprCtx {
+    ExprCtx {
+        unresolved_ctxt: SyntaxContext::empty().apply_mark(unresolved(rt)),
+        is_unresolved_ref_safe: false,
     }
-    match number(-12).as_pure_string(alloc, &ctx)? {
-        Value::Known(text) => assert_eq!(rt; text.as_str(), "-12"),
+}
+
+#[test]
+fn effects_are_kept(rt: HostRuntime) {
+    let alloc = rt.alloc();
+    let ctx = context(&rt);
+    for (call, wanted) in [("g(f(), typeof x, 1)", "f(), typeof x, 3"), ("g(1)", "3")] {
+        let answer = kept(&rt, alloc, &ctx, call);
+        assert!(rt; answer.eq_ignore_span(&value(&rt, alloc, wanted)), "{call}");
+    }
+}
+
+/// No text has a negative number as a literal.
+#[test]
+fn negative_literals_have_texts(rt: HostRuntime) {
+    let alloc = rt.alloc();
+    let span = DUMMY_SP;
+    let literal = Expr::Lit(Lit::Num(Number { span, value: -12 }));
+    match literal
+        .as_pure_string(alloc, &context(&rt))
+        .expect(&rt, "a text")
+    {
+        Value::Known(text) => assert!(rt; text.as_str() == "-12"),
         Value::Unknown => assert!(rt; false),
     }
-    Ok(())
+}
+
+/// The names of parameters, of a function that is a text's first statement.
+fn params(rt: &impl Abort, alloc: Global, text: &str) -> Vec<Id> {
+    let script = read_script(alloc, text, unresolved(rt)).expect(rt, text);
+    match script.body.first() {
+        Some(Stmt::Decl(Decl::Fn(n))) => {
+            find_pat_ids(alloc, &n.function.params).expect(rt, "names")
+        }
+        _ => Vec::new(alloc),
+    }
 }
 
 #[test]
-fn names_are_given(rt: HostRuntime) -> Result<(), Fail> {
+fn names_are_given(rt: HostRuntime) {
     let alloc = rt.alloc();
-    let params = vec![in alloc; param(alloc, 3)?, param_with_default(alloc, 4)?]?;
-    let ids = find_pat_ids(alloc, &params)?;
-    assert_eq!(rt; ids.len(), 2);
+    let ids = params(&rt, alloc, "function f(x, y = 1) {}");
+    assert!(rt; ids.len() == 2);
     let last = Mark::new(2147483647).expect(&rt, "the last mark");
-    let script = read_script(alloc, "let x; f(x);", last)?;
-    let names = Names::new(alloc, &script.body)?;
-    assert_eq!(rt; names.len(), 2);
-    assert!(rt; names.id(2).is_none());
+    let script = read_script(alloc, "let x; f(x);", last).expect(&rt, "a script");
+    let names = Names::new(alloc, &script.body).expect(&rt, "names");
+    assert!(rt; names.len() == 2 && names.id(2).is_none());
     // the same text in another context is another name
-    assert_eq!(rt; names.number(&ids[0]), None);
-    assert_eq!(rt; collect_decls(alloc, &script.body)?.len(), 1);
-    Ok(())
+    assert!(rt; names.number(&ids[0]).is_none());
+    assert!(rt;
+        collect_decls(alloc, &script.body)
+            .expect(&rt, "names")
+            .len()
+            == 1
+    );
 }
 
 /// Tries what an item tells of itself.
-fn tries_item<T: StmtLike + Drop>(rt: &impl Abort, item: T, is_stmt: bool) {
+fn tries_item<T: StmtLike>(rt: &impl Abort, item: &T, is_stmt: bool) {
     assert!(rt; item.as_stmt().is_some() == is_stmt);
     assert!(rt; item.as_module_decl().is_none() == is_stmt);
-    assert!(rt; item.try_into_stmt().is_ok() == is_stmt);
+}
+
+/// Tries what an item tells of itself that is made of a statement.
+fn tries_made<T: StmtLike, R: Abort>(rt: &R, alloc: Global) {
+    let mut script = read_script(alloc, "1;", unresolved(rt)).expect(rt, "a script");
+    let Some(s) = script.body.pop() else {
+        rt.panic("a statement")
+    };
+    let item = T::from(s);
+    tries_item(rt, &item, true);
+    match item.try_into_stmt() {
+        Ok(s) => drop(s),
+        Err(_item) => rt.panic("a statement"),
+    }
 }
 
 #[test]
-fn statements_are_items(rt: HostRuntime) -> Result<(), Fail> {
-    let alloc = rt.alloc();
-    let mark = Mark::new(1).expect(&rt, "1 is a mark");
-    let mut module = read_module(alloc, "import 'm';", mark)?;
-    for item in mem::replace(&mut module.body, Vec::new(alloc)) {
-        tries_item(&rt, item, false);
+fn statements_are_items(rt: HostRuntime) {
+    tries_made::<ModuleItem, _>(&rt, rt.alloc());
+    tries_made::<Stmt, _>(&rt, rt.alloc());
+}
+
+#[test]
+fn declarations_of_modules_are_items(rt: HostRuntime) {
+    let mut module = read(&rt, rt.alloc(), "import 'm';");
+    assert!(rt; module.body.len() == 1);
+    let item = module.body.remove(0);
+    tries_item(&rt, &item, false);
+    match item.try_into_stmt() {
+        Ok(_s) => rt.panic("no statement"),
+        Err(item) => module.body.push(item).expect(&rt, "room"),
     }
-    let item = <ModuleItem as StmtLike>::from(statement(alloc, number(1))?);
-    tries_item(&rt, item, true);
-    let stmt = <Stmt as StmtLike>::from(statement(alloc, number(1))?);
-    tries_item(&rt, stmt, true);
-    Ok(())
 }

@@ -1,170 +1,101 @@
 //! Trees that stand nowhere in a text.
-use std::alloc::{AllocError, Global};
+use crate::texts::{read, turns, unresolved};
+use std::alloc::Global;
 use std::process::Abort;
-use std::test::Fail;
-use swc_ast::{
-    CallExpr, Decl, ExportNamedSpecifier, Expr, ImportDecl, ImportNamedSpecifier, ImportSpecifier,
-    Module, ModuleDecl, ModuleItem, NamedExport, Stmt, Str, VarDecl, VarDeclKind, VarDeclarator,
-};
+use swc_ast::{DUMMY_SP, Decl, Expr, Lit, Module, ModuleItem, Stmt, VarDeclarator};
 use swc_const_propagation::constant_propagation;
-use swc_pass::{Pass, Repeated};
-use swc_text::print;
-use test_trees::{ident, number, span, statement};
+use swc_expr::expr_simplifier;
 
-/// A name that the module binds.
-fn bound(alloc: Global, text: &str) -> Result<Expr, AllocError> {
-    Ok(Expr::Ident(ident(alloc, text, 2)?))
+/// Takes a name or a number out of its text.
+fn displace(e: &mut Expr) {
+    match e {
+        Expr::Ident(n) => n.span = DUMMY_SP,
+        Expr::Lit(Lit::Num(n)) => n.span = DUMMY_SP,
+        _ => {}
+    }
 }
 
-/// A call of a name of the host.
-fn call(alloc: Global, text: &str, args: Vec<Expr>) -> Result<Expr, AllocError> {
-    let callee = Box::new(alloc, Expr::Ident(ident(alloc, text, 1)?))?;
-    let span = span();
-    Ok(Expr::Call(CallExpr { span, callee, args }))
+/// Takes what stands beside an operator out of its text.
+fn displace_operands(e: &mut Expr) {
+    if let Expr::Bin(n) = e {
+        n.span = DUMMY_SP;
+        displace(&mut n.left);
+        displace(&mut n.right);
+    }
 }
 
-/// `const x = init;`
-fn constant(alloc: Global, text: &str, init: Expr) -> Result<ModuleItem, AllocError> {
-    let name = ident(alloc, text, 2)?;
-    let init = Some(Box::new(alloc, init)?);
-    let span = span();
-    let decls = vec![in alloc; VarDeclarator { span, name, init }]?;
-    let kind = VarDeclKind::Const;
-    Ok(ModuleItem::Stmt(Stmt::Decl(Decl::Var(VarDecl { span, kind, decls }))))
+/// Takes a declarator and its first value out of their text.
+fn displace_declarator(n: &mut VarDeclarator) {
+    n.span = DUMMY_SP;
+    n.name.span = DUMMY_SP;
+    if let Some(init) = &mut n.init {
+        displace(init);
+    }
 }
 
-/// `f(x);`
-fn used(alloc: Global, text: &str) -> Result<ModuleItem, AllocError> {
-    let args = vec![in alloc; bound(alloc, text)?]?;
-    Ok(ModuleItem::Stmt(statement(alloc, call(alloc, "f", args)?)?))
+/// Takes a declaration of one variable out of its text, or what stands beside an operator.
+fn displace_item(item: &mut ModuleItem) {
+    match item {
+        ModuleItem::Stmt(Stmt::Expr(n)) => displace_operands(&mut n.expr),
+        ModuleItem::Stmt(Stmt::Decl(Decl::Var(n))) => {
+            n.span = DUMMY_SP;
+            if let Some(first) = n.decls.first_mut() {
+                displace_declarator(first);
+            }
+        }
+        _ => {}
+    }
 }
 
-/// `g()`
-fn made(alloc: Global) -> Result<Expr, AllocError> {
-    call(alloc, "g", Vec::new(alloc))
-}
-
-/// `import {x} from 'm';`
-fn imported(alloc: Global, text: &str) -> Result<ModuleItem, AllocError> {
-    let local = ident(alloc, text, 2)?;
-    let span = span();
-    let imported = None;
-    let specifiers = vec![in alloc;
-        ImportSpecifier::Named(ImportNamedSpecifier {
-            span,
-            local,
-            imported
-        }),
-    ]?;
-    let value = String::from_str(alloc, "m")?;
-    let src = Str { span, value };
-    Ok(ModuleItem::ModuleDecl(ModuleDecl::Import(ImportDecl {
-        span,
-        specifiers,
-        src,
-    })))
-}
-
-/// `const x = y;`
-fn named(alloc: Global, text: &str, of: &str) -> Result<ModuleItem, AllocError> {
-    constant(alloc, text, bound(alloc, of)?)
-}
-
-/// `const x = g();`
-fn called(alloc: Global, text: &str) -> Result<ModuleItem, AllocError> {
-    constant(alloc, text, made(alloc)?)
-}
-
-/// `export {x};`
-fn exported(alloc: Global, text: &str) -> Result<ModuleItem, AllocError> {
-    let orig = ident(alloc, text, 2)?;
-    let span = span();
-    let exported = None;
-    let specifiers = vec![in alloc;
-        ExportNamedSpecifier {
-            span,
-            orig,
-            exported
-        },
-    ]?;
-    Ok(ModuleItem::ModuleDecl(ModuleDecl::ExportNamed(NamedExport { span, specifiers })))
-}
-
-/// Tries the pass on items of a module that stand nowhere.
-fn tries(rt: &impl Abort, alloc: Global, body: Vec<ModuleItem>, wanted: &str) -> Result<(), Fail> {
-    let span = span();
-    let module = Module { span, body };
-    let before = print(alloc, &module)?;
-    let mut pass = constant_propagation();
-    let answer = pass.run(alloc, &module)?;
-    assert_eq!(rt; print(alloc, &answer)?.as_str(), wanted);
-    assert_eq!(rt; pass.changed(), before.as_str() != wanted);
-    Ok(())
+/// What a text is read as, but that its declarations and operands stand nowhere.
+fn displaced(rt: &impl Abort, alloc: Global, text: &str) -> Module {
+    let mut module = read(rt, alloc, text);
+    for item in module.body.iter_mut() {
+        displace_item(item);
+    }
+    module
 }
 
 #[test]
-fn constants_that_stand_nowhere_carry_names(rt: HostRuntime) -> Result<(), Fail> {
+fn constants_that_stand_nowhere_carry_names(rt: HostRuntime) {
     let alloc = rt.alloc();
-    let body = vec![in alloc;
-        constant(alloc, "a", number(1))?,
-        constant(alloc, "b", bound(alloc, "a")?)?,
-        used(alloc, "b")?,
-    ]?;
-    tries(&rt, alloc, body, "const a = 1;\nconst b = 1;\nf(1);\n")
+    for (text, wanted) in [
+        (
+            "const a = 1;\nconst b = a;\nf(b);\n",
+            "const a = 1;\nconst b = 1;\nf(1);\n",
+        ),
+        // constants that come later are not carried
+        (
+            "const a = b;\nconst b = 1;\nf(a);\n",
+            "const a = b;\nconst b = 1;\nf(a);\n",
+        ),
+        // constants carry names of names
+        (
+            "const a = g();\nconst b = a;\nconst c = b;\nf(c);\n",
+            "const a = g();\nconst b = a;\nconst c = a;\nf(a);\n",
+        ),
+        // exports name what names stand for
+        (
+            "const a = g();\nconst b = a;\nexport {b};\n",
+            "const a = g();\nconst b = a;\nexport {a as b};\n",
+        ),
+        // imported names are not carried
+        (
+            "import {i} from 'm';\nconst a = i;\nf(a);\n",
+            "import {i} from 'm';\nconst a = i;\nf(a);\n",
+        ),
+    ] {
+        let module = displaced(&rt, alloc, text);
+        let wanted = (wanted, text != wanted);
+        turns(&rt, alloc, &mut constant_propagation(), &module, wanted);
+    }
 }
 
+/// Numbers that stand nowhere may become longer ones.
 #[test]
-fn constants_that_come_later_are_not_carried(rt: HostRuntime) -> Result<(), Fail> {
+fn the_length_rule_asks_nothing_of_what_stands_nowhere(rt: HostRuntime) {
     let alloc = rt.alloc();
-    let body = vec![in alloc;
-        constant(alloc, "a", bound(alloc, "b")?)?,
-        constant(alloc, "b", number(1))?,
-        used(alloc, "a")?,
-    ]?;
-    tries(&rt, alloc, body, "const a = b;\nconst b = 1;\nf(a);\n")
-}
-
-#[test]
-fn constants_carry_names_of_names(rt: HostRuntime) -> Result<(), Fail> {
-    let alloc = rt.alloc();
-    let body = vec![in alloc;
-        called(alloc, "a")?,
-        named(alloc, "b", "a")?,
-        named(alloc, "c", "b")?,
-        used(alloc, "c")?,
-    ]?;
-    let wanted = "const a = g();\nconst b = a;\nconst c = a;\nf(a);\n";
-    tries(&rt, alloc, body, wanted)
-}
-
-#[test]
-fn exports_name_what_names_stand_for(rt: HostRuntime) -> Result<(), Fail> {
-    let alloc = rt.alloc();
-    let body = vec![in alloc;
-        constant(alloc, "a", made(alloc)?)?,
-        constant(alloc, "b", bound(alloc, "a")?)?,
-        exported(alloc, "b")?,
-    ]?;
-    tries(
-        &rt,
-        alloc,
-        body,
-        "const a = g();\nconst b = a;\nexport {a as b};\n",
-    )
-}
-
-#[test]
-fn imported_names_are_not_carried(rt: HostRuntime) -> Result<(), Fail> {
-    let alloc = rt.alloc();
-    let body = vec![in alloc;
-        imported(alloc, "i")?,
-        constant(alloc, "a", bound(alloc, "i")?)?,
-        used(alloc, "a")?,
-    ]?;
-    tries(
-        &rt,
-        alloc,
-        body,
-        "import {i} from 'm';\nconst a = i;\nf(a);\n",
-    )
+    let mut pass = expr_simplifier(unresolved(&rt), swc_expr::Config::default());
+    let module = displaced(&rt, alloc, "7 ** 9;\n");
+    turns(&rt, alloc, &mut pass, &module, ("40353607;\n", true));
 }

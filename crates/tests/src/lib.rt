@@ -12,8 +12,6 @@ mod paths;
 #[cfg(test)]
 mod propagated;
 #[cfg(test)]
-mod rounds;
-#[cfg(test)]
 mod runs;
 #[cfg(test)]
-mod types;
+mod texts;

@@ -1,31 +1,19 @@
 //! What passes tell of themselves that put what is given or known.
-use std::alloc::Global;
+use crate::texts::{read, shows, tells, unresolved, value};
+use std::alloc::{AllocError, Global};
 use std::collections::BTreeMap;
-use std::process::Abort;
-use std::test::Fail;
-use swc_ast::Mark;
+use swc_ast::Expr;
 use swc_const_propagation::constant_propagation;
 use swc_inline_globals::inline_globals;
 use swc_inlining::{Config, ScopeKind, inlining};
-use swc_pass::{CompilerPass, Pass, Repeated};
-use swc_text::{print, read_expr, read_module};
-
-/// Tries what a pass that propagates tells of itself, before and behind a run.
-fn tries<P: Pass>(rt: &impl Abort, alloc: Global, pass: &mut P) -> Result<(), Fail> {
-    let mark = Mark::new(1).expect(rt, "1 is a mark");
-    assert!(rt; pass.mark().is_none() && !pass.lowers() && !pass.changed());
-    pass.run(alloc, &read_module(alloc, "const a = 1; f(a);", mark)?)?;
-    assert!(rt; pass.changed());
-    pass.reset();
-    assert!(rt; !pass.changed());
-    Ok(())
-}
+use swc_pass::{CompilerPass, Repeated};
 
 #[test]
-fn passes_that_propagate_have_no_mark(rt: HostRuntime) -> Result<(), Fail> {
+fn passes_that_propagate_have_no_mark(rt: HostRuntime) {
     let alloc = rt.alloc();
-    tries(&rt, alloc, &mut constant_propagation())?;
-    tries(&rt, alloc, &mut inlining(Config {}))
+    let texts = ("const a = 1; f(a);", "const a = 1;\nf(1);\n");
+    tells(&rt, alloc, &mut constant_propagation(), None, texts);
+    tells(&rt, alloc, &mut inlining(Config {}), None, texts);
 }
 
 #[test]
@@ -35,23 +23,28 @@ fn the_pass_that_inlines_has_a_name(rt: HostRuntime) {
     assert!(rt; ScopeKind::Cond != ScopeKind::Loop && ScopeKind::Loop != ScopeKind::Block);
 }
 
+/// What is given for a name.
+fn given(alloc: Global, name: &str, value: Expr) -> Result<BTreeMap<String, Expr>, AllocError> {
+    let mut globals = BTreeMap::new(alloc);
+    globals.insert(String::from_str(alloc, name)?, value)?;
+    Ok(globals)
+}
+
 /// Without a mark only names with the empty context are unresolved.
 #[test]
-fn names_with_another_mark_stay(rt: HostRuntime) -> Result<(), Fail> {
+fn names_with_another_mark_stay(rt: HostRuntime) {
     let alloc = rt.alloc();
-    let mark = Mark::new(1).expect(&rt, "1 is a mark");
     let (envs, typeofs) = (BTreeMap::new(alloc), BTreeMap::new(alloc));
-    let mut globals = BTreeMap::new(alloc);
-    globals.insert(String::from_str(alloc, "x")?, read_expr(alloc, "1", mark)?)?;
+    let globals = given(alloc, "x", value(&rt, alloc, "1")).expect(&rt, "a value");
     let mut pass = inline_globals(&envs, &globals, &typeofs);
-    let answer = pass.run(alloc, &read_module(alloc, "f(x);", mark)?)?;
+    let module = read(&rt, alloc, "f(x);");
+    let answer = pass.run(alloc, &module).expect(&rt, "a module");
     assert!(rt; !pass.changed());
-    assert_eq!(rt; print(alloc, &answer)?.as_str(), "f(x);\n");
-    let mut pass = pass.with_mark(mark);
-    let answer = pass.fold_module(alloc, answer)?;
+    shows(&rt, alloc, &answer, "f(x);\n");
+    let mut pass = pass.with_mark(unresolved(&rt));
+    let answer = pass.fold_module(alloc, answer).expect(&rt, "a module");
     assert!(rt; pass.changed());
-    assert_eq!(rt; print(alloc, &answer)?.as_str(), "f(1);\n");
+    shows(&rt, alloc, &answer, "f(1);\n");
     pass.reset();
     assert!(rt; !pass.changed());
-    Ok(())
 }

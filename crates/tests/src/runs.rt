@@ -3,7 +3,7 @@ use shake_run::run;
 use std::alloc::Global;
 use std::io;
 use std::io::{Error, ErrorKind, Read, Write};
-use std::test::Fail;
+use std::process::Abort;
 
 // Gives its bytes `step` at a time, and fails at the end where it says so.
 #[derive(Drop)]
@@ -76,24 +76,24 @@ struct Outcome {
     said: Vec<u8>,
 }
 
+/// Runs the program with one word behind its name, where so many writes of what it says succeed.
 fn ran(
+    rt: &impl Abort,
     alloc: Global,
-    args: &[&str],
+    word: &str,
     mut source: Source<'_>,
     mut sink: Sink,
     said: usize,
-) -> Result<Outcome, Fail> {
-    let mut words = Vec::new(alloc);
-    for word in args {
-        words.push(String::from_str(alloc, word)?)?;
-    }
+) -> Outcome {
+    let word = String::from_str(alloc, word).expect(rt, "a word");
+    let words = vec![in alloc; word].expect(rt, "words");
     let mut errors = Sink::new(alloc, said);
     let status = run(alloc, words.as_slice(), &mut source, &mut sink, &mut errors);
-    Ok(Outcome {
+    Outcome {
         status,
         output: sink.taken,
         said: errors.taken,
-    })
+    }
 }
 
 fn bytes(text: &[u8]) -> Source<'_> {
@@ -108,44 +108,44 @@ const TEXT: &[u8] = b"import {a} from 'm'; if (0) f(1 + 1); let p; g(2 + 3);";
 
 const SIMPLIFIED: &str = "import {a} from 'm';\nif (0) f(2);\nlet p;\ng(5);\n";
 
-#[test]
-fn tells_bytes_that_are_no_text(rt: HostRuntime) -> Result<(), Fail> {
-    let sink = Sink::new(rt.alloc(), AMPLE);
-    let unread = ran(rt.alloc(), &["expr"], bytes(b"f(\xff);"), sink, AMPLE)?;
-    assert_eq!(rt; unread.status, 1);
-    assert!(rt; unread.output.is_empty());
-    assert_eq!(rt; unread.said.as_slice(), b"shake: input\n".as_slice());
-    Ok(())
+/// Tries an input that isn't read.
+fn tells_input(rt: &impl Abort, alloc: Global, source: Source<'_>) {
+    let unread = ran(rt, alloc, "expr", source, Sink::new(alloc, AMPLE), AMPLE);
+    assert!(rt; unread.status == 1 && unread.output.is_empty());
+    assert!(rt; unread.said.as_slice() == b"shake: input\n".as_slice());
 }
 
 #[test]
-fn tells_a_failed_read(rt: HostRuntime) -> Result<(), Fail> {
+fn tells_bytes_that_are_no_text(rt: HostRuntime) {
+    tells_input(&rt, rt.alloc(), bytes(b"f(\xff);"));
+}
+
+#[test]
+fn tells_a_failed_read(rt: HostRuntime) {
     let mut broken = bytes(TEXT);
     broken.fails = true;
-    let sink = Sink::new(rt.alloc(), AMPLE);
-    let unread = ran(rt.alloc(), &["expr"], broken, sink, AMPLE)?;
-    assert_eq!(rt; unread.status, 1);
-    assert!(rt; unread.output.is_empty());
-    assert_eq!(rt; unread.said.as_slice(), b"shake: input\n".as_slice());
-    Ok(())
+    tells_input(&rt, rt.alloc(), broken);
 }
 
 #[test]
-fn tells_failed_writes(rt: HostRuntime) -> Result<(), Fail> {
+fn tells_failed_writes(rt: HostRuntime) {
+    let alloc = rt.alloc();
     for (room, flushes) in [(0usize, true), (1, true), (AMPLE, false)] {
-        let mut sink = Sink::new(rt.alloc(), room);
+        let mut sink = Sink::new(alloc, room);
         sink.flushes = flushes;
-        let cut = ran(rt.alloc(), &["expr"], bytes(TEXT), sink, AMPLE)?;
-        assert_eq!(rt; cut.status, 1);
-        assert_eq!(rt; cut.output.len(), room.min(SIMPLIFIED.len()));
+        let cut = ran(&rt, alloc, "expr", bytes(TEXT), sink, AMPLE);
+        assert!(rt; cut.status == 1 && cut.output.len() == room.min(SIMPLIFIED.len()));
         assert!(rt; SIMPLIFIED.as_bytes().starts_with(cut.output.as_slice()));
-        assert_eq!(rt; cut.said.as_slice(), b"shake: output\n".as_slice());
+        assert!(rt; cut.said.as_slice() == b"shake: output\n".as_slice());
     }
-    for (args, status) in [("fold", 2u8), ("expr", 1)] {
-        let sink = Sink::new(rt.alloc(), AMPLE);
-        let unsaid = ran(rt.alloc(), &[args], bytes(b"f(1 + 2"), sink, 0)?;
-        assert_eq!(rt; unsaid.status, status, "{args}");
-        assert!(rt; unsaid.said.is_empty(), "{args}");
+}
+
+#[test]
+fn ends_where_nothing_can_be_said(rt: HostRuntime) {
+    let alloc = rt.alloc();
+    for (word, status) in [("fold", 2u8), ("expr", 1)] {
+        let sink = Sink::new(alloc, AMPLE);
+        let unsaid = ran(&rt, alloc, word, bytes(b"f(1 + 2"), sink, 0);
+        assert!(rt; unsaid.status == status && unsaid.said.is_empty(), "{word}");
     }
-    Ok(())
 }

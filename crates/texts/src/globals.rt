@@ -1,6 +1,6 @@
 //! What is given for names, for chains of members, for members of `process.env` and for types of names.
 use anyhow::{Context, bail};
-use std::alloc::Global;
+use std::alloc::{AllocError, Global};
 use std::collections::BTreeMap;
 use swc_ast::{Expr, Mark};
 use swc_expr_map::GlobalExprMap;
@@ -41,21 +41,18 @@ impl Globals {
         text: &str,
         mark: Mark,
     ) -> anyhow::Result<()> {
-        let name = String::from_str(alloc, key)?;
         if kind == "typeof" {
+            let name = String::from_str(alloc, key)?;
             self.types.insert(name, String::from_str(alloc, text)?)?;
             return Ok(());
         }
         let value = read_expr(alloc, text, mark)?;
         match kind {
-            "" => self.names.insert(name, value)?,
-            "env" => self.envs.insert(name, value)?,
-            "chain" => {
-                self.chains.insert(read_expr(alloc, key, mark)?, value)?;
-                None
-            }
+            "" => add_to(alloc, &mut self.names, key, value)?,
+            "env" => add_to(alloc, &mut self.envs, key, value)?,
+            "chain" => self.chains.insert(read_expr(alloc, key, mark)?, value)?,
             _ => bail!("nothing is given for {kind}"),
-        };
+        }
         Ok(())
     }
 
@@ -63,4 +60,14 @@ impl Globals {
     pub fn pass(&self, mark: Mark) -> InlineGlobals<'_> {
         inline_globals2(&self.envs, &self.names, &self.chains, &self.types).with_mark(mark)
     }
+}
+
+fn add_to(
+    alloc: Global,
+    values: &mut BTreeMap<String, Expr>,
+    key: &str,
+    value: Expr,
+) -> Result<(), AllocError> {
+    values.insert(String::from_str(alloc, key)?, value)?;
+    Ok(())
 }

@@ -15,6 +15,20 @@ pub enum Question {
     Facts,
 }
 
+impl Question {
+    /// The question of a name, if it has one.
+    pub fn parse(name: &str) -> Option<Question> {
+        match name {
+            "truth" => Some(Question::Truth),
+            "number" => Some(Question::Number),
+            "text" => Some(Question::Text),
+            "type" => Some(Question::Type),
+            "facts" => Some(Question::Facts),
+            _ => None,
+        }
+    }
+}
+
 /// What is known of the expression that a text ends with.
 pub fn known(alloc: Global, what: Question, text: &str, mark: Mark) -> anyhow::Result<String> {
     let ctx = ExprCtx {
@@ -23,16 +37,20 @@ pub fn known(alloc: Global, what: Question, text: &str, mark: Mark) -> anyhow::R
     };
     let module = read_module(alloc, text, mark)?;
     let expr = last_expression(&module).context("an expression at the end")?;
+    answer(alloc, what, expr, &ctx)
+}
+
+fn answer(alloc: Global, what: Question, expr: &Expr, ctx: &ExprCtx) -> anyhow::Result<String> {
     Ok(match what {
         Question::Truth => {
-            let (purity, truth) = expr.cast_to_bool(&ctx);
-            let pure_truth = expr.as_pure_bool(&ctx);
+            let (purity, truth) = expr.cast_to_bool(ctx);
+            let pure_truth = expr.as_pure_bool(ctx);
             format!(in alloc; "{purity:?}, {truth:?}; where pure: {pure_truth:?}")?
         }
-        Question::Number => format!(in alloc; "{:?}", expr.as_pure_number(&ctx))?,
-        Question::Text => format!(in alloc; "{:?}", expr.as_pure_string(alloc, &ctx)?)?,
-        Question::Type => format!(in alloc; "{:?}", expr.get_type(&ctx))?,
-        Question::Facts => facts(alloc, expr, &ctx)?,
+        Question::Number => format!(in alloc; "{:?}", expr.as_pure_number(ctx))?,
+        Question::Text => format!(in alloc; "{:?}", expr.as_pure_string(alloc, ctx)?)?,
+        Question::Type => format!(in alloc; "{:?}", expr.get_type(ctx))?,
+        Question::Facts => facts(alloc, expr, ctx)?,
     })
 }
 

@@ -36,18 +36,30 @@ fn told(alloc: Global, input: &str) -> anyhow::Result<String> {
     let mut order = Order::parse(alloc, "print", mark)?;
     let mut output = String::new(alloc);
     for line in input.lines() {
-        writeln!(output, "{line}")?;
-        if let Some(words) = line.strip_prefix(": ") {
-            order = Order::parse(alloc, words, mark)?;
-        } else if !line.starts_with("# ") {
-            let text = text_of(alloc, line)?;
-            let answer = order.answer(alloc, text.as_str(), mark)?;
-            for told in answer.lines() {
-                writeln!(output, "  {told}")?;
-            }
-        }
+        push_line(alloc, &mut output, &mut order, line, mark)?;
     }
     Ok(output)
+}
+
+/// Writes a line, with what is told of it if it is a text.
+fn push_line(
+    alloc: Global,
+    output: &mut String,
+    order: &mut Order,
+    line: &str,
+    mark: Mark,
+) -> anyhow::Result<()> {
+    writeln!(output, "{line}")?;
+    if let Some(words) = line.strip_prefix(": ") {
+        *order = Order::parse(alloc, words, mark)?;
+    } else if !line.starts_with("# ") {
+        let text = text_of(alloc, line)?;
+        let answer = order.answer(alloc, text.as_str(), mark)?;
+        for told in answer.lines() {
+            writeln!(output, "  {told}")?;
+        }
+    }
+    Ok(())
 }
 
 /// The text that a line stands for.

@@ -2,7 +2,7 @@
 use anyhow::Context;
 use std::alloc::Global;
 use std::fmt::Write;
-use swc_ast::{Id, Mark};
+use swc_ast::{Id, Mark, Module, Script};
 use swc_names::{Names, collect_decls, extract_var_ids};
 use swc_text::{read_module, read_script};
 use swc_weight::{weight, weight_of_script};
@@ -10,29 +10,37 @@ use swc_weight::{weight, weight_of_script};
 /// A text's names, each with its context, in the order of their numbers and with `*` behind those that it declares; behind them,
 /// for a script, the names that `var` declares.
 pub fn named(alloc: Global, text: &str, mark: Mark, is_script: bool) -> anyhow::Result<String> {
-    let module = read_module(alloc, text, mark)?;
+    let mut told = String::from_str(alloc, "names:")?;
+    push_names(alloc, &mut told, &read_module(alloc, text, mark)?)?;
+    if is_script {
+        told.push_str("\nvar:")?;
+        push_vars(alloc, &mut told, &read_script(alloc, text, mark)?)?;
+    }
+    Ok(told)
+}
+
+fn push_names(alloc: Global, told: &mut String, module: &Module) -> anyhow::Result<()> {
     let names = Names::new(alloc, &module.body)?;
     let declared = collect_decls(alloc, &module.body)?;
-    let mut told = String::from_str(alloc, "names:")?;
     for number in 0..names.len() {
         let id = names.id(number).context("a name")?;
         if names.number(id) != Some(number) {
             told.push_str(" WRONG:")?;
         }
-        push_name(alloc, &mut told, id)?;
+        push_name(alloc, told, id)?;
         if declared.contains(id) {
             told.push_str("*")?;
         }
     }
-    if is_script {
-        let script = read_script(alloc, text, mark)?;
-        let vars = extract_var_ids(alloc, &script.body)?;
-        told.push_str("\nvar:")?;
-        for id in &vars {
-            push_name(alloc, &mut told, id)?;
-        }
+    Ok(())
+}
+
+fn push_vars(alloc: Global, told: &mut String, script: &Script) -> anyhow::Result<()> {
+    let vars = extract_var_ids(alloc, &script.body)?;
+    for id in &vars {
+        push_name(alloc, told, id)?;
     }
-    Ok(told)
+    Ok(())
 }
 
 fn push_name(alloc: Global, told: &mut String, id: &Id) -> anyhow::Result<()> {

@@ -21,7 +21,7 @@ use swc_text::read_expr;
 /// What is done with a text.
 #[derive(Drop)]
 enum Task {
-    Run(AnyPass<'static>),
+    Run(AnyPass),
     Put(Globals),
     /// Each text is refused, since what is given is.
     Refuse(String),
@@ -37,16 +37,14 @@ enum Task {
 
 impl Task {
     fn parse(name: &str, mark: Mark, config: Config) -> anyhow::Result<Task> {
+        if let Some(what) = Question::parse(name) {
+            return Ok(Task::Know(what));
+        }
         Ok(match name {
             "compare" => Task::Compare,
             "expression" => Task::Read,
             "names" => Task::Name,
             "weight" => Task::Weigh,
-            "truth" => Task::Know(Question::Truth),
-            "number" => Task::Know(Question::Number),
-            "text" => Task::Know(Question::Text),
-            "type" => Task::Know(Question::Type),
-            "facts" => Task::Know(Question::Facts),
             "peel" => Task::Peel(dce(config.dce, mark), config.max_rounds),
             "rounds" => Task::Repeat(config.dce.top_retain),
             name => Task::Run(AnyPass::parse(name, mark, config)?),
@@ -136,6 +134,6 @@ impl Order {
 
 /// What is told of a text in which what is given is put.
 fn put(alloc: Global, globals: &Globals, text: &str, mark: Mark) -> anyhow::Result<String> {
-    let mut pass = AnyPass::Globals(globals.pass(mark));
+    let mut pass = globals.pass(mark);
     of_both(alloc, &mut pass, text, mark, false)
 }

@@ -12,9 +12,27 @@ use swc_inlining::{Inlining, inlining};
 use swc_optimization::{Config, Simplifier, simplifier};
 use swc_pass::{Pass, Repeated};
 
+/// What texts are given to.
+pub trait TextPass {
+    /// What becomes of a module.
+    fn run(&mut self, alloc: Global, module: &Module) -> Result<Module, PassError>;
+
+    /// What becomes of a script.
+    fn run_script(&mut self, alloc: Global, script: &Script) -> Result<Script, PassError>;
+
+    /// Whether the last run changed something.
+    fn changed(&self) -> bool;
+
+    /// How many rounds the last run had, and whether the last one of them changed nothing, if it has rounds.
+    fn rounds(&self) -> Option<(usize, bool)>;
+
+    /// Whether it does nothing, so that texts are only read and printed.
+    fn is_printer(&self) -> bool;
+}
+
 /// A pass, or nothing but the printer.
 #[derive(Drop)]
-pub enum AnyPass<'a> {
+pub enum AnyPass {
     Print,
     Expr(SimplifyExpr),
     Branch(Remover),
@@ -23,12 +41,11 @@ pub enum AnyPass<'a> {
     Const(ConstPropagation),
     Inline(Inlining),
     Imports(ConstModules),
-    Globals(InlineGlobals<'a>),
 }
 
-impl<'a> AnyPass<'a> {
+impl AnyPass {
     /// The pass of a name.
-    pub fn parse(name: &str, mark: Mark, config: Config) -> anyhow::Result<AnyPass<'a>> {
+    pub fn parse(name: &str, mark: Mark, config: Config) -> anyhow::Result<AnyPass> {
         Ok(match name {
             "print" => AnyPass::Print,
             "expr" => AnyPass::Expr(expr_simplifier(mark, config.expr)),
@@ -40,9 +57,10 @@ impl<'a> AnyPass<'a> {
             _ => bail!("{name} is no order"),
         })
     }
+}
 
-    /// What becomes of a module.
-    pub fn run(&mut self, alloc: Global, module: &Module) -> Result<Module, PassError> {
+impl TextPass for AnyPass {
+    fn run(&mut self, alloc: Global, module: &Module) -> Result<Module, PassError> {
         match self {
             AnyPass::Print => Ok(module.clone()?),
             AnyPass::Expr(pass) => pass.run(alloc, module),
@@ -52,12 +70,10 @@ impl<'a> AnyPass<'a> {
             AnyPass::Const(pass) => pass.run(alloc, module),
             AnyPass::Inline(pass) => pass.run(alloc, module),
             AnyPass::Imports(pass) => pass.run(alloc, module),
-            AnyPass::Globals(pass) => pass.run(alloc, module),
         }
     }
 
-    /// What becomes of a script.
-    pub fn run_script(&mut self, alloc: Global, script: &Script) -> Result<Script, PassError> {
+    fn run_script(&mut self, alloc: Global, script: &Script) -> Result<Script, PassError> {
         match self {
             AnyPass::Print => Ok(script.clone()?),
             AnyPass::Expr(pass) => pass.run_script(alloc, script),
@@ -67,12 +83,10 @@ impl<'a> AnyPass<'a> {
             AnyPass::Const(pass) => pass.run_script(alloc, script),
             AnyPass::Inline(pass) => pass.run_script(alloc, script),
             AnyPass::Imports(pass) => pass.run_script(alloc, script),
-            AnyPass::Globals(pass) => pass.run_script(alloc, script),
         }
     }
 
-    /// Whether the last run changed something.
-    pub fn changed(&self) -> bool {
+    fn changed(&self) -> bool {
         match self {
             AnyPass::Print => false,
             AnyPass::Expr(pass) => pass.changed(),
@@ -82,7 +96,39 @@ impl<'a> AnyPass<'a> {
             AnyPass::Const(pass) => pass.changed(),
             AnyPass::Inline(pass) => pass.changed(),
             AnyPass::Imports(pass) => pass.changed(),
-            AnyPass::Globals(pass) => pass.changed(),
         }
+    }
+
+    fn rounds(&self) -> Option<(usize, bool)> {
+        match self {
+            AnyPass::Simplify(pass) => Some((pass.rounds(), pass.reached())),
+            _ => None,
+        }
+    }
+
+    fn is_printer(&self) -> bool {
+        matches!(self, AnyPass::Print)
+    }
+}
+
+impl TextPass for InlineGlobals<'_> {
+    fn run(&mut self, alloc: Global, module: &Module) -> Result<Module, PassError> {
+        InlineGlobals::run(self, alloc, module)
+    }
+
+    fn run_script(&mut self, alloc: Global, script: &Script) -> Result<Script, PassError> {
+        InlineGlobals::run_script(self, alloc, script)
+    }
+
+    fn changed(&self) -> bool {
+        Repeated::changed(self)
+    }
+
+    fn rounds(&self) -> Option<(usize, bool)> {
+        None
+    }
+
+    fn is_printer(&self) -> bool {
+        false
     }
 }

@@ -64,12 +64,17 @@ fn config(alloc: Global, retained: &[String], most: usize) -> anyhow::Result<Con
     Ok(config)
 }
 
+/// What a pass leaves of a text.
+fn left<P: Pass>(alloc: Global, pass: &mut P, text: &str, mark: Mark) -> anyhow::Result<String> {
+    let answer = pass.run(alloc, &read_module(alloc, text, mark)?)?;
+    Ok(print(alloc, &answer)?)
+}
+
 /// What the simplifier makes of a text.
 fn simplified(alloc: Global, config: Config, text: &str, mark: Mark) -> anyhow::Result<Outcome> {
     let mut pass = simplifier(mark, config);
-    let answer = pass.run(alloc, &read_module(alloc, text, mark)?)?;
     Ok(Outcome {
-        left: print(alloc, &answer)?,
+        left: left(alloc, &mut pass, text, mark)?,
         rounds: pass.rounds(),
         reached: pass.reached(),
         changed: pass.changed(),
@@ -82,9 +87,8 @@ fn repeated(alloc: Global, config: Config, text: &str, mark: Mark) -> anyhow::Re
     let front = Chain::new(expressions, dead_branch_remover(mark));
     let row = Chain::new(front, dce(config.dce, mark));
     let mut pass = Repeat::new(row, config.max_rounds);
-    let answer = pass.run(alloc, &read_module(alloc, text, mark)?)?;
     Ok(Outcome {
-        left: print(alloc, &answer)?,
+        left: left(alloc, &mut pass, text, mark)?,
         rounds: pass.rounds(),
         reached: pass.reached(),
         changed: pass.changed(),

@@ -1,5 +1,5 @@
 //! What becomes of whole texts.
-use crate::passes::AnyPass;
+use crate::passes::TextPass;
 use core_trees::{is_core, is_script_core};
 use std::alloc::Global;
 use std::fmt::Write;
@@ -9,9 +9,9 @@ use swc_resolved::{is_resolved, is_script_resolved};
 use swc_text::{print, print_script, read_module, read_script};
 
 /// What is told of a text as a module, and below that of the text as a script where it is something else.
-pub fn of_both(
+pub fn of_both<P: TextPass>(
     alloc: Global,
-    pass: &mut AnyPass<'_>,
+    pass: &mut P,
     text: &str,
     mark: Mark,
     counts_rounds: bool,
@@ -26,9 +26,9 @@ pub fn of_both(
 }
 
 /// What is told of a text as a module.
-pub fn of_module(
+pub fn of_module<P: TextPass>(
     alloc: Global,
-    pass: &mut AnyPass<'_>,
+    pass: &mut P,
     text: &str,
     mark: Mark,
     counts_rounds: bool,
@@ -57,7 +57,7 @@ pub fn of_module(
 }
 
 /// What is told of a refusal.
-fn refused(alloc: Global, pass: &AnyPass<'_>, refusal: PassError) -> anyhow::Result<String> {
+fn refused<P: TextPass>(alloc: Global, pass: &P, refusal: PassError) -> anyhow::Result<String> {
     let mut told = format!(in alloc; "error: {refusal}\n")?;
     if pass.changed() {
         told.push_str("WRONG: a change is told\n")?;
@@ -66,10 +66,10 @@ fn refused(alloc: Global, pass: &AnyPass<'_>, refusal: PassError) -> anyhow::Res
 }
 
 /// Tells what is wrong with an answer once it is read again.
-fn push_again(
+fn push_again<P: TextPass>(
     alloc: Global,
     told: &mut String,
-    pass: &mut AnyPass<'_>,
+    pass: &mut P,
     printed: &str,
     mark: Mark,
 ) -> anyhow::Result<()> {
@@ -87,20 +87,20 @@ fn push_again(
 }
 
 /// Whether another run has nothing to do, where the last round of the last run had nothing to do.
-fn is_settled(alloc: Global, pass: &mut AnyPass<'_>, module: &Module) -> anyhow::Result<bool> {
-    match pass {
-        AnyPass::Simplify(pass) if pass.reached() => {
+fn is_settled<P: TextPass>(alloc: Global, pass: &mut P, module: &Module) -> anyhow::Result<bool> {
+    match pass.rounds() {
+        Some((_, true)) => {
             let answer = pass.run(alloc, module)?;
-            Ok(answer == *module && !pass.changed() && pass.reached() && pass.rounds() == 1)
+            Ok(answer == *module && !pass.changed() && pass.rounds() == Some((1, true)))
         }
         _ => Ok(true),
     }
 }
 
 /// What is told of a text as a script.
-fn of_script(
+fn of_script<P: TextPass>(
     alloc: Global,
-    pass: &mut AnyPass<'_>,
+    pass: &mut P,
     text: &str,
     mark: Mark,
     counts_rounds: bool,
@@ -129,9 +129,9 @@ fn of_script(
 }
 
 /// What a text becomes, by the answer's text and by what the pass tells.
-fn become_of(
+fn become_of<P: TextPass>(
     alloc: Global,
-    pass: &AnyPass<'_>,
+    pass: &P,
     text: &str,
     printed: &str,
     counts_rounds: bool,
@@ -142,15 +142,15 @@ fn become_of(
         told.push_str("stays\n")?;
     } else {
         told.push_str(printed)?;
-        if !(changed || matches!(pass, AnyPass::Print)) {
+        if !(changed || pass.is_printer()) {
             told.push_str("unchanged\n")?;
         }
     }
-    if let AnyPass::Simplify(pass) = pass {
+    if let Some((rounds, reached)) = pass.rounds() {
         if counts_rounds {
-            write!(told, "rounds: {}, ", pass.rounds())?;
+            write!(told, "rounds: {rounds}, ")?;
         }
-        told.push_str(if pass.reached() {
+        told.push_str(if reached {
             "reached\n"
         } else {
             "not reached\n"

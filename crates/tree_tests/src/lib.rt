@@ -8,6 +8,8 @@ mod rounds;
 #[cfg(test)]
 mod small;
 #[cfg(test)]
+mod texts;
+#[cfg(test)]
 mod trees;
 #[cfg(test)]
 mod walk;

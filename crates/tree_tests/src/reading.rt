@@ -1,47 +1,44 @@
 //! What is read: spans, contexts, templates, and texts that are long, wide and deep.
+use crate::texts::{module_of, unresolved, value_of};
 use core_trees::is_core;
 use std::alloc::{AllocError, Global};
-use std::test::Fail;
-use swc_ast::{Expr, Mark, ModuleItem, Stmt, SyntaxContext};
-use swc_resolved::is_resolved;
+use std::process::Abort;
+use swc_ast::{Expr, Mark, Module, ModuleItem, Stmt, SyntaxContext};
+use swc_resolved::{is_core_and_resolved, is_resolved};
 use swc_text::{ReadError, read_expr, read_module};
 
-#[test]
-fn contexts_go_on_at_the_first_mark(rt: HostRuntime) -> Result<(), Fail> {
-    let last = Mark::new(2147483647).expect(&rt, "the last mark");
-    let first = Mark::new(1).expect(&rt, "the first mark");
-    let module = read_module(rt.alloc(), "let a; a;", last)?;
-    assert_eq!(rt; (module.span.lo, module.span.hi), (1, 10));
-    match module.body.last() {
-        Some(ModuleItem::Stmt(Stmt::Expr(node))) => match &*node.expr {
-            Expr::Ident(name) => {
-                assert!(rt; name.ctxt == SyntaxContext::empty().apply_mark(first));
-                assert_eq!(rt; (name.span.lo, name.span.hi), (8, 9));
-            }
-            _ => assert!(rt; false, "a name"),
-        },
-        _ => assert!(rt; false, "a statement"),
+/// The expression that a module ends with.
+fn last_expression(module: &Module) -> Option<&Expr> {
+    match module.body.last()? {
+        ModuleItem::Stmt(Stmt::Expr(node)) => Some(&node.expr),
+        _ => None,
     }
-    Ok(())
 }
 
 #[test]
-fn templates_are_cooked(rt: HostRuntime) -> Result<(), Fail> {
-    let mark = Mark::new(1).expect(&rt, "1 is a mark");
-    let read = read_expr(rt.alloc(), "`a\r\nb${c}\\x41\\\r\n\r`", mark)?;
-    let Expr::Tpl(node) = &read else {
-        assert!(rt; false, "a template");
-        return Ok(());
+fn contexts_go_on_at_the_first_mark(rt: HostRuntime) {
+    let last = Mark::new(2147483647).expect(&rt, "the last mark");
+    let module = read_module(rt.alloc(), "let a; a;", last).expect(&rt, "a module");
+    assert!(rt; (module.span.lo, module.span.hi) == (1, 10));
+    let Some(Expr::Ident(name)) = last_expression(&module) else {
+        rt.panic("a name")
     };
-    assert_eq!(rt; node.quasis.len(), 2);
-    assert_eq!(rt; node.exprs.len(), 1);
+    assert!(rt; name.ctxt == SyntaxContext::empty().apply_mark(unresolved(&rt)));
+    assert!(rt; (name.span.lo, name.span.hi) == (8, 9));
+}
+
+#[test]
+fn templates_are_cooked(rt: HostRuntime) {
+    let read = value_of(&rt, rt.alloc(), "`a\r\nb${c}\\x41\\\r\n\r`");
+    let Expr::Tpl(node) = &read else {
+        rt.panic("a template")
+    };
+    assert!(rt; node.quasis.len() == 2 && node.exprs.len() == 1);
     let wanted = [("a\nb", false, 2, 6), ("A\n", true, 10, 18)];
     for (quasi, (cooked, tail, lo, hi)) in node.quasis.iter().zip(wanted) {
-        assert_eq!(rt; quasi.cooked.as_str(), cooked);
-        assert_eq!(rt; quasi.tail, tail);
-        assert_eq!(rt; (quasi.span.lo, quasi.span.hi), (lo, hi));
+        assert!(rt; quasi.cooked.as_str() == cooked && quasi.tail == tail);
+        assert!(rt; (quasi.span.lo, quasi.span.hi) == (lo, hi));
     }
-    Ok(())
 }
 
 /// Core text with a form of each kind.
@@ -55,46 +52,64 @@ const LONG: &str =
     const u = function v(w) { new v(w, [, ...w]); return typeof void w, delete a[b] }, zz = ab => ab";
 
 #[test]
-fn each_beginning_is_read_or_refused_at_its_end(rt: HostRuntime) -> Result<(), Fail> {
+fn a_long_text_is_read_twice(rt: HostRuntime) {
     let alloc = rt.alloc();
-    let mark = Mark::new(1).expect(&rt, "1 is a mark");
-    let whole = read_module(alloc, LONG, mark)?;
-    assert!(rt; whole == read_module(alloc, LONG, mark)?);
-    assert!(rt; format!(in alloc; "{whole:?}")?.len() > LONG.len());
-    for end in 0..LONG.len() {
-        match read_module(alloc, LONG.get(..end).unwrap_or(""), mark) {
-            Ok(_) => {}
+    let whole = module_of(&rt, alloc, LONG);
+    assert!(rt; whole == module_of(&rt, alloc, LONG));
+    let shown = format!(in alloc; "{whole:?}").expect(&rt, "a text");
+    assert!(rt; shown.len() > LONG.len());
+}
+
+/// A function whose list ends before its end.
+const ENDS: &str = "export function k(){ return g(); var a = 1; foo(); function g(){ return 2; } }";
+
+/// Tries that each beginning of a text is read as a resolved tree of the core, or refused at its end at the latest.
+fn begins(rt: &impl Abort, alloc: Global, text: &str) {
+    let mark = unresolved(rt);
+    for end in 0..text.len() {
+        match read_module(alloc, text.get(..end).unwrap_or(""), mark) {
+            Ok(module) => {
+                let answer = is_core_and_resolved(alloc, &module, mark);
+                assert!(rt; answer.expect(rt, "an answer"), "{end}");
+            }
             Err(ReadError::Syntax { at }) => assert!(rt; at as usize <= end, "{end}"),
             Err(error) => assert!(rt; false, "{end}: {error}"),
         }
     }
-    Ok(())
 }
 
 #[test]
-fn a_thousand_levels_are_read(rt: HostRuntime) -> Result<(), Fail> {
+fn each_beginning_is_read_or_refused_at_its_end(rt: HostRuntime) {
+    begins(&rt, rt.alloc(), LONG);
+    begins(&rt, rt.alloc(), ENDS);
+}
+
+#[test]
+fn a_thousand_levels_are_read(rt: HostRuntime) {
     let alloc = rt.alloc();
-    let mark = Mark::new(1).expect(&rt, "1 is a mark");
+    let mark = unresolved(&rt);
     for (count, is_expr, is_module) in [
         (998, true, true),
         (999, true, false),
         (1000, false, false),
     ] {
-        let mut text = "!".repeat(alloc, count)?;
-        text.push_str("a")?;
+        let mut text = "!".repeat(alloc, count).expect(&rt, "a text");
+        text.push_str("a").expect(&rt, "a text");
         let of_expr = read_expr(alloc, text.as_str(), mark).err();
-        text.push_str(";")?;
+        assert!(rt; of_expr == too_deep(is_expr), "{count}");
+        text.push_str(";").expect(&rt, "a text");
         let of_module = read_module(alloc, text.as_str(), mark).err();
-        for (fault, is_read) in [(of_expr, is_expr), (of_module, is_module)] {
-            let wanted = if is_read {
-                None
-            } else {
-                Some(ReadError::TooDeep)
-            };
-            assert_eq!(rt; fault, wanted, "{count}");
-        }
+        assert!(rt; of_module == too_deep(is_module), "{count}");
     }
-    Ok(())
+}
+
+/// What is told of a text, if it isn't read.
+fn too_deep(is_read: bool) -> Option<ReadError> {
+    if is_read {
+        None
+    } else {
+        Some(ReadError::TooDeep)
+    }
 }
 
 /// A function with as many parameters, of which the last has a default, as it declares names of `var`.
@@ -119,21 +134,22 @@ fn nested(alloc: Global, opens: &str, inside: &str) -> Result<String, AllocError
     Ok(text)
 }
 
+/// Tries that a text is read as a tree of the core.
+fn reads(rt: &impl Abort, alloc: Global, text: Result<String, AllocError>) {
+    let module = module_of(rt, alloc, text.expect(rt, "a text").as_str());
+    assert!(rt; is_resolved(alloc, &module, unresolved(rt)).expect(rt, "an answer"));
+    assert!(rt; is_core(alloc, &module).expect(rt, "an answer"));
+}
+
 /// Deep and wide texts, whose scopes would take long if their names were gathered or looked for again and again.
 #[test]
-fn deep_and_wide_texts_are_read(rt: HostRuntime) -> Result<(), Fail> {
+fn deep_and_wide_texts_are_read(rt: HostRuntime) {
     let alloc = rt.alloc();
-    let mark = Mark::new(1).expect(&rt, "1 is a mark");
     let function = "(function (a, b = a) { var c; let d; c = d; });";
-    let statements = "a = 1; ".repeat(alloc, 20000)?;
-    for text in [
-        nested(alloc, "function f(a, b = a) { var c; let d; ", function)?,
-        nested(alloc, "{ let a; ", statements.as_str())?,
-        function.repeat(alloc, 20000)?,
-        wide_function(alloc, 20000)?,
-    ] {
-        let module = read_module(alloc, text.as_str(), mark)?;
-        assert!(rt; is_resolved(alloc, &module, mark)? && is_core(alloc, &module)?);
-    }
-    Ok(())
+    let statements = "a = 1; ".repeat(alloc, 20000).expect(&rt, "a text");
+    let inside = nested(alloc, "function f(a, b = a) { var c; let d; ", function);
+    reads(&rt, alloc, inside);
+    reads(&rt, alloc, nested(alloc, "{ let a; ", statements.as_str()));
+    reads(&rt, alloc, function.repeat(alloc, 20000));
+    reads(&rt, alloc, wide_function(alloc, 20000));
 }

@@ -1,235 +1,219 @@
 //! Trees that no text has: which are valid, which are resolved and which are core.
+use crate::texts::{module_of, unresolved};
 use core_trees::{is_core, is_script_core};
 use std::alloc::{AllocError, Global};
-use std::test::Fail;
+use std::process::Abort;
+use swc_ast::VarDeclKind::{Const, Let, Var};
 use swc_ast::{
-    BlockStmt, BreakStmt, ContinueStmt, ExportNamedSpecifier, Expr, Invalid, LabeledStmt, Mark,
-    ModuleDecl, ModuleItem, NamedExport, Script, SeqExpr, Stmt, Tpl, TplElement, TryStmt,
-    VarDeclKind, WhileStmt,
+    Atom, DUMMY_SP, ExportNamedSpecifier, Expr, ModuleDecl, ModuleItem, NamedExport, Pat, Stmt,
+    Tpl, TplElement, VarDeclKind,
 };
 use swc_debug::{is_script_valid, is_valid};
 use swc_resolved::{
     is_core_and_resolved, is_resolved, is_script_core_and_resolved, is_script_resolved,
 };
+use test_trees::Place::{Here, InBlock, InFunction};
 use test_trees::{
-    block, declare, function, ident, module, number, param, param_with_default, span, statement,
-    word,
+    block, break_to, continue_to, declare, function, labeled, loop_on, name, nothing, number,
+    param, param_with_default, scope, sequence, statement, try_alone, whole,
 };
 
-fn script(alloc: Global, s: Stmt) -> Result<Script, AllocError> {
-    let body = vec![in alloc; s]?;
-    let span = span();
-    Ok(Script { span, body })
+/// Tries what is told of a statement that isn't both valid and resolved, as a module and as a script.
+fn tries(
+    rt: &impl Abort,
+    alloc: Global,
+    s: Result<Stmt, AllocError>,
+    (valid, resolved): (bool, bool),
+) {
+    let mark = unresolved(rt);
+    let s = s.expect(rt, "a statement");
+    let (module, script) = whole(alloc, s).expect(rt, "a tree");
+    assert!(rt; is_valid(&module) == valid && is_script_valid(&script) == valid);
+    assert!(rt; is_resolved(alloc, &module, mark).expect(rt, "an answer") == resolved);
+    assert!(rt; is_script_resolved(alloc, &script, mark).expect(rt, "an answer") == resolved);
+    assert!(rt; !is_core_and_resolved(alloc, &module, mark).expect(rt, "an answer"));
+    assert!(rt; !is_script_core_and_resolved(alloc, &script, mark).expect(rt, "an answer"));
+}
+
+/// Tries a statement that is resolved and isn't valid.
+fn invalid(rt: &impl Abort, alloc: Global, s: Result<Stmt, AllocError>) {
+    tries(rt, alloc, s, (false, true));
+}
+
+/// Tries a statement that is valid and isn't resolved.
+fn unbound(rt: &impl Abort, alloc: Global, s: Result<Stmt, AllocError>) {
+    tries(rt, alloc, s, (true, false));
 }
 
 /// A template of an expression and a text.
-fn template(alloc: Global) -> Result<Expr, AllocError> {
-    let span = span();
+fn template(alloc: Global) -> Result<Stmt, AllocError> {
+    let span = DUMMY_SP;
     let cooked = String::from_str(alloc, "a")?;
     let tail = true;
-    Ok(Expr::Tpl(Tpl {
+    let mut quasis = Vec::new(alloc);
+    quasis.push(TplElement { span, tail, cooked })?;
+    let quasis = Box::new(alloc, quasis)?;
+    let mut exprs = Vec::new(alloc);
+    exprs.push(number(1))?;
+    let node = Tpl {
         span,
-        quasis: Box::new(alloc, vec![in alloc; TplElement { span, tail, cooked }]?)?,
-        exprs: vec![in alloc; number(1)]?,
-    }))
-}
-
-/// `try {}`
-fn try_alone(alloc: Global) -> Result<Stmt, AllocError> {
-    let span = span();
-    let stmts = Vec::new(alloc);
-    let node = TryStmt {
-        span,
-        block: BlockStmt { span, stmts },
-        handler: None,
-        finalizer: None,
+        quasis,
+        exprs,
     };
-    Ok(Stmt::Try(Box::new(alloc, node)?))
-}
-
-/// `while (1) let x;`
-fn loop_on_let(alloc: Global) -> Result<Stmt, AllocError> {
-    let span = span();
-    let test = Box::new(alloc, number(1))?;
-    let body = Box::new(alloc, declare(alloc, VarDeclKind::Let, 2)?)?;
-    Ok(Stmt::While(WhileStmt { span, test, body }))
+    statement(alloc, Expr::Tpl(node))
 }
 
 #[test]
-fn invalid_trees_are_told(rt: HostRuntime) -> Result<(), Fail> {
+fn invalid_trees_are_told(rt: HostRuntime) {
     let alloc = rt.alloc();
-    let mark = Mark::new(1).expect(&rt, "1 is a mark");
-    let span = span();
-    let exprs = vec![in alloc; number(1)]?;
-    let mut stmts = vec![in alloc;
-        try_alone(alloc)?,
-        loop_on_let(alloc)?,
-        statement(alloc, Expr::Seq(SeqExpr { span, exprs }))?,
-        statement(alloc, Expr::Invalid(Invalid { span }))?,
-        statement(alloc, template(alloc)?)?,
-    ]?;
+    invalid(&rt, alloc, try_alone(alloc));
+    invalid(&rt, alloc, loop_on(alloc, Let));
+    invalid(&rt, alloc, sequence(alloc, 1));
+    invalid(&rt, alloc, statement(alloc, nothing()));
+    invalid(&rt, alloc, template(alloc));
     for word in ["class", "await", "yield", "", "1a", "a-b"] {
-        stmts.push(statement(alloc, Expr::Ident(ident(alloc, word, 1)?))?)?;
+        invalid(&rt, alloc, name(alloc, word));
     }
-    for (i, s) in stmts.into_iter().enumerate() {
-        let (a, b) = (script(alloc, s.clone()?)?, module(alloc, s)?);
-        assert!(rt;
-            !is_script_valid(&a) && is_script_resolved(alloc, &a, mark)?,
-            "{i}"
-        );
-        assert!(rt; !is_valid(&b) && is_resolved(alloc, &b, mark)?, "{i}");
-        assert!(rt; !is_script_core_and_resolved(alloc, &a, mark)?, "{i}");
-        assert!(rt; !is_core_and_resolved(alloc, &b, mark)?, "{i}");
-    }
-    Ok(())
 }
 
-fn labeled(alloc: Global, body: Stmt) -> Result<Stmt, AllocError> {
-    let label = word(alloc, "a")?;
-    let body = Box::new(alloc, body)?;
-    let span = span();
-    Ok(Stmt::Labeled(LabeledStmt { span, label, body }))
-}
-
-fn break_to(alloc: Global, label: &str) -> Result<Stmt, AllocError> {
-    let label = Some(word(alloc, label)?);
-    let span = span();
-    Ok(Stmt::Break(BreakStmt { span, label }))
-}
-
-/// Jumps that have no target.
-fn aimless(alloc: Global) -> Result<Vec<Stmt>, AllocError> {
+/// A function under a label, with a jump to that.
+fn jump_out(alloc: Global) -> Result<Stmt, AllocError> {
     let inner = vec![in alloc; break_to(alloc, "a")?]?;
-    let label = Some(word(alloc, "a")?);
-    let span = span();
-    Ok(vec![in alloc;
-        break_to(alloc, "a")?,
-        labeled(alloc, break_to(alloc, "b")?)?,
-        labeled(
-            alloc,
-            block(vec![in alloc; function(alloc, Vec::new(alloc), inner)?]?)
-        )?,
-        labeled(alloc, Stmt::Continue(ContinueStmt { span, label }))?,
-    ]?)
+    let stmts = vec![in alloc; function(alloc, Vec::new(alloc), inner)?]?;
+    labeled(alloc, block(stmts))
+}
+
+/// `function f(x) { let x; }`, or `var` or `const`.
+fn redeclared(
+    alloc: Global,
+    param: Result<Pat, AllocError>,
+    kind: VarDeclKind,
+    mark: u32,
+) -> Result<Stmt, AllocError> {
+    let params = vec![in alloc; param?]?;
+    let stmts = vec![in alloc; declare(alloc, kind, mark)?]?;
+    function(alloc, params, stmts)
 }
 
 #[test]
-fn unresolved_trees_are_told(rt: HostRuntime) -> Result<(), Fail> {
+fn jumps_without_targets_are_told(rt: HostRuntime) {
     let alloc = rt.alloc();
-    let mark = Mark::new(1).expect(&rt, "1 is a mark");
-    let mut stmts = aimless(alloc)?;
+    unbound(&rt, alloc, break_to(alloc, "a"));
+    let break_b = break_to(alloc, "b").expect(&rt, "a jump");
+    unbound(&rt, alloc, labeled(alloc, break_b));
+    unbound(&rt, alloc, jump_out(alloc));
+    let continue_a = continue_to(alloc, "a").expect(&rt, "a jump");
+    unbound(&rt, alloc, labeled(alloc, continue_a));
+}
+
+#[test]
+fn unresolved_trees_are_told(rt: HostRuntime) {
+    let alloc = rt.alloc();
     // a name is bound by one scope, and no unresolved name is bound
-    let inner = block(vec![in alloc; declare(alloc, VarDeclKind::Let, 2)?]?);
-    stmts.push(block(vec![in alloc; declare(alloc, VarDeclKind::Let, 2)?, inner]?))?;
-    stmts.push(declare(alloc, VarDeclKind::Let, 0)?)?;
-    stmts.push(declare(alloc, VarDeclKind::Let, 1)?)?;
+    unbound(
+        &rt,
+        alloc,
+        scope(alloc, &[(Here, Let, 2), (InBlock, Let, 2)]),
+    );
+    unbound(&rt, alloc, declare(alloc, Let, 0));
+    unbound(&rt, alloc, declare(alloc, Let, 1));
     // no parameter is declared beside a default
-    let params = vec![in alloc; param_with_default(alloc, 3)?]?;
-    let body = vec![in alloc; declare(alloc, VarDeclKind::Let, 4)?]?;
-    stmts.push(function(alloc, params, body)?)?;
-    for (i, s) in stmts.into_iter().enumerate() {
-        let (a, b) = (script(alloc, s.clone()?)?, module(alloc, s)?);
-        assert!(rt;
-            is_script_valid(&a) && !is_script_resolved(alloc, &a, mark)?,
-            "{i}"
-        );
-        assert!(rt; is_valid(&b) && !is_resolved(alloc, &b, mark)?, "{i}");
-        assert!(rt; !is_script_core_and_resolved(alloc, &a, mark)?, "{i}");
-        assert!(rt; !is_core_and_resolved(alloc, &b, mark)?, "{i}");
-    }
+    let param = param_with_default(alloc, 3);
+    unbound(&rt, alloc, redeclared(alloc, param, Let, 4));
+}
+
+fn rename(alloc: Global, n: &mut ExportNamedSpecifier, text: &str) -> Result<(), AllocError> {
+    n.orig.sym = Atom::from_str(alloc, text)?;
     Ok(())
+}
+
+fn rename_first(alloc: Global, n: &mut NamedExport, text: &str) -> Result<(), AllocError> {
+    match n.specifiers.first_mut() {
+        Some(first) => rename(alloc, first, text),
+        None => Ok(()),
+    }
+}
+
+/// Lets the first name that an item exports have another text.
+fn export_as(alloc: Global, item: &mut ModuleItem, text: &str) -> Result<(), AllocError> {
+    match item {
+        ModuleItem::ModuleDecl(ModuleDecl::ExportNamed(n)) => rename_first(alloc, n, text),
+        _ => Ok(()),
+    }
 }
 
 #[test]
-fn exports_are_bound_by_the_module(rt: HostRuntime) -> Result<(), Fail> {
+fn exports_are_bound_by_the_module(rt: HostRuntime) {
     let alloc = rt.alloc();
-    let mark = Mark::new(1).expect(&rt, "1 is a mark");
     for (text, is_bound) in [("x", true), ("y", false)] {
-        let mut m = module(alloc, declare(alloc, VarDeclKind::Let, 2)?)?;
-        let span = span();
-        let orig = ident(alloc, text, 2)?;
-        let exported = None;
-        let specifiers = vec![in alloc;
-            ExportNamedSpecifier {
-                span,
-                orig,
-                exported
-            },
-        ]?;
-        let export = ModuleDecl::ExportNamed(NamedExport { span, specifiers });
-        m.body.push(ModuleItem::ModuleDecl(export))?;
-        assert!(rt; is_resolved(alloc, &m, mark)? == is_bound, "{text}");
-        assert!(rt;
-            is_core_and_resolved(alloc, &m, mark)? == is_bound,
-            "{text}"
-        );
+        let mut module = module_of(&rt, alloc, "let x; export {x};");
+        let Some(export) = module.body.last_mut() else {
+            rt.panic("an export")
+        };
+        export_as(alloc, export, text).expect(&rt, "a name");
+        let is_answer = is_resolved(alloc, &module, unresolved(&rt)).expect(&rt, "an answer");
+        assert!(rt; is_answer == is_bound, "{text}");
+        let is_both = is_core_and_resolved(alloc, &module, unresolved(&rt));
+        assert!(rt; is_both.expect(&rt, "an answer") == is_bound, "{text}");
     }
-    Ok(())
 }
 
-/// Statements, and whether each is core.
-fn cores(alloc: Global) -> Result<Vec<(Stmt, bool)>, AllocError> {
-    let mut stmts = Vec::new(alloc);
+/// Tries whether a statement is core, as a module and as a script.
+fn tries_core(rt: &impl Abort, alloc: Global, s: Result<Stmt, AllocError>, wanted: bool) {
+    let s = s.expect(rt, "a statement");
+    let (module, script) = whole(alloc, s).expect(rt, "a tree");
+    assert!(rt; is_core(alloc, &module).expect(rt, "an answer") == wanted);
+    assert!(rt; is_script_core(alloc, &script).expect(rt, "an answer") == wanted);
+}
+
+#[test]
+fn numbers_of_the_core_are_told(rt: HostRuntime) {
+    let alloc = rt.alloc();
     for (value, is_core) in [
         (9007199254740991, true),
         (-9007199254740991, true),
         (9007199254740992, false),
         (-9007199254740992, false),
     ] {
-        stmts.push((statement(alloc, number(value))?, is_core))?;
+        tries_core(&rt, alloc, statement(alloc, number(value)), is_core);
     }
-    // a list declares a name once
-    for (mark, is_core) in [(3, true), (2, false)] {
-        let first = declare(alloc, VarDeclKind::Let, 2)?;
-        let second = declare(alloc, VarDeclKind::Let, mark)?;
-        stmts.push((block(vec![in alloc; first, second]?), is_core))?;
-    }
-    let inner = block(vec![in alloc; declare(alloc, VarDeclKind::Var, 2)?]?);
-    let outer = vec![in alloc; declare(alloc, VarDeclKind::Let, 2)?, inner]?;
-    stmts.push((block(outer), false))?;
-    // a scope's names are declared in it alone, and stay declared behind a scope inside that declares them too
-    let lexical = declare(alloc, VarDeclKind::Let, 2)?;
-    let var = declare(alloc, VarDeclKind::Var, 2)?;
-    let inner = block(vec![in alloc; lexical.clone()?]?);
-    let before = vec![in alloc; inner.clone()?, var.clone()?]?;
-    stmts.push((block(before), true))?;
-    let shadowed = vec![in alloc; lexical.clone()?, inner, var.clone()?]?;
-    stmts.push((block(shadowed), false))?;
-    let apart = function(alloc, Vec::new(alloc), vec![in alloc; var]?)?;
-    stmts.push((block(vec![in alloc; lexical, apart]?), true))?;
-    Ok(stmts)
-}
-
-/// Functions, and whether each is core: parameters stand once, and only `var` declares them again.
-fn functions(alloc: Global) -> Result<Vec<(Stmt, bool)>, AllocError> {
-    let mut stmts = Vec::new(alloc);
-    for (kind, is_core) in [
-        (VarDeclKind::Var, true),
-        (VarDeclKind::Let, false),
-        (VarDeclKind::Const, false),
-    ] {
-        let params = vec![in alloc; param(alloc, 3)?]?;
-        let body = vec![in alloc; declare(alloc, kind, 3)?]?;
-        stmts.push((function(alloc, params, body)?, is_core))?;
-    }
-    for (mark, is_core) in [(3, false), (4, true)] {
-        let params = vec![in alloc; param(alloc, 3)?, param(alloc, mark)?]?;
-        stmts.push((function(alloc, params, Vec::new(alloc))?, is_core))?;
-    }
-    Ok(stmts)
 }
 
 #[test]
-fn trees_of_the_core_are_told(rt: HostRuntime) -> Result<(), Fail> {
+fn lists_of_the_core_are_told(rt: HostRuntime) {
     let alloc = rt.alloc();
-    for stmts in [cores(alloc)?, functions(alloc)?] {
-        for (i, (s, wanted)) in stmts.into_iter().enumerate() {
-            assert!(rt;
-                is_script_core(alloc, &script(alloc, s.clone()?)?)? == wanted,
-                "{i}"
-            );
-            assert!(rt; is_core(alloc, &module(alloc, s)?)? == wanted, "{i}");
-        }
+    // a list declares a name once
+    let apart = scope(alloc, &[(Here, Let, 2), (Here, Let, 3)]);
+    tries_core(&rt, alloc, apart, true);
+    let twice = scope(alloc, &[(Here, Let, 2), (Here, Let, 2)]);
+    tries_core(&rt, alloc, twice, false);
+    let hoisted = scope(alloc, &[(Here, Let, 2), (InBlock, Var, 2)]);
+    tries_core(&rt, alloc, hoisted, false);
+    // a scope's names are declared in it alone, and stay declared behind a scope inside that declares them too
+    let before = scope(alloc, &[(InBlock, Let, 2), (Here, Var, 2)]);
+    tries_core(&rt, alloc, before, true);
+    let shadowed = scope(alloc, &[(Here, Let, 2), (InBlock, Let, 2), (Here, Var, 2)]);
+    tries_core(&rt, alloc, shadowed, false);
+    let in_function = scope(alloc, &[(Here, Let, 2), (InFunction, Var, 2)]);
+    tries_core(&rt, alloc, in_function, true);
+}
+
+/// `function f(x, x) {}`, where the marks of the two names are 3 and another.
+fn of_two(alloc: Global, mark: u32) -> Result<Stmt, AllocError> {
+    let mut params = vec![in alloc; param(alloc, 3)?]?;
+    params.push(param(alloc, mark)?)?;
+    function(alloc, params, Vec::new(alloc))
+}
+
+/// Parameters stand once, and only `var` declares them again.
+#[test]
+fn functions_of_the_core_are_told(rt: HostRuntime) {
+    let alloc = rt.alloc();
+    for (kind, is_core) in [(Var, true), (Let, false), (Const, false)] {
+        let again = redeclared(alloc, param(alloc, 3), kind, 3);
+        tries_core(&rt, alloc, again, is_core);
     }
-    Ok(())
+    for (mark, is_core) in [(3, false), (4, true)] {
+        tries_core(&rt, alloc, of_two(alloc, mark), is_core);
+    }
 }

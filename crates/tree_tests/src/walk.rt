@@ -2,14 +2,11 @@
 ghost use Rattle.std.specs.Prelude.{◌≡◌, ◌≤◌, IsFalse};
 ghost use Rattle.swc_ast.specs.declared.expressions.Expr.{size-Expr};
 
-use std::alloc::{AllocError, Global};
+use crate::texts::{module_of, script_of, value_of};
+use std::alloc::AllocError;
 use std::mem;
-use std::test::Fail;
-use swc_ast::{
-    AssignExpr, AssignOp, AssignTarget, Decl, Expr, Invalid, Lit, ModuleItem, Script, Stmt,
-    VarDecl, VarDeclKind, VarDeclarator,
-};
-use test_trees::{ident, module, number, span, statement};
+use std::process::Abort;
+use swc_ast::{DUMMY_SP, Expr, Invalid, Lit, ModuleItem, Stmt};
 use tree_walk::{
     ListPlace, Place, Rules, rewrite, walk_decl, walk_expr, walk_list, walk_module, walk_script,
     walk_stmt,
@@ -24,7 +21,7 @@ fn take_value(e: &mut Expr) -> bool
 {
     match e {
         Expr::Assign(n) => {
-            let value = mem::replace(&mut *n.right, Expr::Invalid(Invalid { span: span() }));
+            let value = mem::replace(&mut *n.right, Expr::Invalid(Invalid { span: DUMMY_SP }));
             *e = value;
             true
         }
@@ -64,22 +61,6 @@ impl Rules for Unassign {
     }
 }
 
-/// `x = 1`
-fn assignment(alloc: Global) -> Result<Expr, AllocError> {
-    let node = AssignExpr {
-        span: span(),
-        op: AssignOp::Assign,
-        left: AssignTarget::Ident(ident(alloc, "x", 1)?),
-        right: Box::new(alloc, number(1))?,
-    };
-    Ok(Expr::Assign(Box::new(alloc, node)?))
-}
-
-/// `x = 1;`
-fn assigning(alloc: Global) -> Result<Stmt, AllocError> {
-    statement(alloc, assignment(alloc)?)
-}
-
 fn is_number(e: &Expr) -> bool {
     matches!(e, Expr::Lit(Lit::Num(_)))
 }
@@ -89,41 +70,54 @@ fn ends_in_number(stmts: &[Stmt]) -> bool {
 }
 
 #[test]
-fn parts_are_walked(rt: HostRuntime) -> Result<(), Fail> {
-    let alloc = rt.alloc();
-    let mut e = assignment(alloc)?;
-    assert!(rt; !walk_expr(&Unassign {}, Place::Callee, &mut e)?);
-    assert!(rt; walk_expr(&Unassign {}, Place::Value, &mut e)?);
-    assert!(rt; is_number(&e) && !walk_expr(&Unassign {}, Place::Value, &mut e)?);
-    let mut s = assigning(alloc)?;
-    assert!(rt; walk_stmt(&Unassign {}, &mut s)?);
-    let mut list = vec![in alloc; s, assigning(alloc)?]?;
-    assert!(rt; walk_list(&Unassign {}, ListPlace::Block, &mut list)?);
-    assert!(rt; ends_in_number(&list));
-    let (name, init) = (
-        ident(alloc, "x", 1)?,
-        Some(Box::new(alloc, assignment(alloc)?)?),
-    );
-    let span = span();
-    let decls = vec![in alloc; VarDeclarator { span, name, init }]?;
-    let kind = VarDeclKind::Var;
-    let mut declared = Decl::Var(VarDecl { span, kind, decls });
-    assert!(rt; walk_decl(&Unassign {}, &mut declared)?);
-    assert!(rt; !walk_decl(&Unassign {}, &mut declared)?);
-    Ok(())
+fn expressions_are_walked(rt: HostRuntime) {
+    let mut e = value_of(&rt, rt.alloc(), "x = 1");
+    assert!(rt; !walk_expr(&Unassign {}, Place::Callee, &mut e).expect(&rt, "a walk"));
+    assert!(rt; walk_expr(&Unassign {}, Place::Value, &mut e).expect(&rt, "a walk"));
+    assert!(rt; is_number(&e));
+    assert!(rt; !walk_expr(&Unassign {}, Place::Value, &mut e).expect(&rt, "a walk"));
 }
 
 #[test]
-fn modules_and_scripts_are_walked(rt: HostRuntime) -> Result<(), Fail> {
-    let alloc = rt.alloc();
-    let body = vec![in alloc; assigning(alloc)?]?;
-    let mut script = Script { span: span(), body };
-    assert!(rt; walk_script(&Unassign {}, &mut script)?);
+fn statements_are_walked(rt: HostRuntime) {
+    let mut script = script_of(&rt, rt.alloc(), "x = 1; x = 1;");
+    let Some(first) = script.body.first_mut() else {
+        rt.panic("a statement")
+    };
+    assert!(rt; walk_stmt(&Unassign {}, first).expect(&rt, "a walk"));
+    let list = &mut script.body;
+    assert!(rt; walk_list(&Unassign {}, ListPlace::Block, list).expect(&rt, "a walk"));
     assert!(rt; ends_in_number(&script.body));
-    let mut whole = module(alloc, assigning(alloc)?)?;
-    let copy = rewrite(&Unassign {}, &whole)?;
+}
+
+/// Whether the walk changes the declaration that a list begins with.
+fn is_walked(rt: &impl Abort, stmts: &mut Vec<Stmt>) -> bool {
+    match stmts.first_mut() {
+        Some(Stmt::Decl(declared)) => walk_decl(&Unassign {}, declared).expect(rt, "a walk"),
+        _ => rt.panic("a declaration"),
+    }
+}
+
+#[test]
+fn declarations_are_walked(rt: HostRuntime) {
+    let mut script = script_of(&rt, rt.alloc(), "var x = x = 1;");
+    assert!(rt; is_walked(&rt, &mut script.body));
+    assert!(rt; !is_walked(&rt, &mut script.body));
+}
+
+#[test]
+fn scripts_are_walked(rt: HostRuntime) {
+    let mut script = script_of(&rt, rt.alloc(), "x = 1;");
+    assert!(rt; walk_script(&Unassign {}, &mut script).expect(&rt, "a walk"));
+    assert!(rt; ends_in_number(&script.body));
+}
+
+#[test]
+fn modules_are_walked(rt: HostRuntime) {
+    let mut whole = module_of(&rt, rt.alloc(), "x = 1;");
+    let copy = rewrite(&Unassign {}, &whole).expect(&rt, "a walk");
     assert!(rt; copy.changed && copy.module != whole);
-    assert!(rt; walk_module(&Unassign {}, &mut whole)?);
-    assert!(rt; copy.module == whole && !rewrite(&Unassign {}, &whole)?.changed);
-    Ok(())
+    assert!(rt; walk_module(&Unassign {}, &mut whole).expect(&rt, "a walk"));
+    assert!(rt; copy.module == whole);
+    assert!(rt; !rewrite(&Unassign {}, &whole).expect(&rt, "a walk").changed);
 }
