@@ -64,12 +64,19 @@ fn shows(rt: &impl Abort, alloc: Global, module: &Module, wanted: &str) {
 /// A text, and what a pass makes of it.
 type Row = (&'static str, &'static str);
 
-/// Runs a pass on a module, and again where it is refused.
-fn ran<P: Pass>(rt: &impl Abort, alloc: Global, pass: &mut P, module: &Module) -> Module {
+/// Runs a pass on a module, and again where it is refused. A refusal leaves the module as it was before.
+fn ran<P: Pass>(
+    rt: &impl Abort,
+    alloc: Global,
+    pass: &mut P,
+    module: &Module,
+    before: &Module,
+) -> Module {
     match pass.run(alloc, module) {
         Ok(answer) => answer,
         Err(error) => {
             assert!(rt; error == PassError::OutOfMemory && !pass.changed());
+            assert!(rt; *module == *before);
             pass.run(alloc, module).expect(rt, "an answer")
         }
     }
@@ -80,7 +87,7 @@ fn tries<P: Pass>(rt: &impl Abort, alloc: Global, pass: &mut P, rows: &[Row]) {
     for (text, wanted) in rows {
         let module = read(rt, alloc, text);
         let before = copied(rt, &module);
-        let answer = ran(rt, alloc, pass, &module);
+        let answer = ran(rt, alloc, pass, &module, &before);
         shows(rt, alloc, &answer, wanted);
         assert!(rt; module == before, "{text}");
     }
