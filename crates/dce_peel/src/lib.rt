@@ -11,6 +11,3 @@ pub use access::Access;
 pub use item::Item;
 pub use layers::{Layering, layers_of};
 pub use rest::what_stays;
-
-#[cfg(test)]
-mod tests;

@@ -1,10 +1,10 @@
 //! What tests do with texts.
 use std::alloc::{AllocError, Global};
 use std::process::Abort;
-use swc_ast::{Expr, Mark, Module};
+use swc_ast::{Expr, Mark, Module, Script};
 use swc_optimization::Config;
 use swc_pass::Pass;
-use swc_text::{print, read_expr, read_module};
+use swc_text::{print, read_expr, read_module, read_script};
 
 /// The mark of names that no scope binds.
 pub(crate) fn unresolved(rt: &impl Abort) -> Mark {
@@ -14,6 +14,11 @@ pub(crate) fn unresolved(rt: &impl Abort) -> Mark {
 /// What a text is read as.
 pub(crate) fn read(rt: &impl Abort, alloc: Global, text: &str) -> Module {
     read_module(alloc, text, unresolved(rt)).expect(rt, text)
+}
+
+/// What a text is read as, as a script.
+pub(crate) fn read_as_script(rt: &impl Abort, alloc: Global, text: &str) -> Script {
+    read_script(alloc, text, unresolved(rt)).expect(rt, text)
 }
 
 /// What an expression's text is read as.

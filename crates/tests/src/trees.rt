@@ -1,5 +1,5 @@
 //! Trees that no text has: which are valid, which are resolved and which are core.
-use crate::texts::{module_of, unresolved};
+use crate::texts::{read, unresolved};
 use core_trees::{is_core, is_script_core};
 use std::alloc::{AllocError, Global};
 use std::process::Abort;
@@ -146,7 +146,7 @@ fn export_as(alloc: Global, item: &mut ModuleItem, text: &str) -> Result<(), All
 fn exports_are_bound_by_the_module(rt: HostRuntime) {
     let alloc = rt.alloc();
     for (text, is_bound) in [("x", true), ("y", false)] {
-        let mut module = module_of(&rt, alloc, "let x; export {x};");
+        let mut module = read(&rt, alloc, "let x; export {x};");
         let Some(export) = module.body.last_mut() else {
             rt.panic("an export")
         };

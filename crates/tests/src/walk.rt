@@ -2,7 +2,7 @@
 ghost use Rattle.std.specs.Prelude.{◌≡◌, ◌≤◌, IsFalse};
 ghost use Rattle.swc_ast.specs.declared.expressions.Expr.{size-Expr};
 
-use crate::texts::{module_of, script_of, value_of};
+use crate::texts::{read, read_as_script, value};
 use std::alloc::AllocError;
 use std::mem;
 use std::process::Abort;
@@ -71,7 +71,7 @@ fn ends_in_number(stmts: &[Stmt]) -> bool {
 
 #[test]
 fn expressions_are_walked(rt: HostRuntime) {
-    let mut e = value_of(&rt, rt.alloc(), "x = 1");
+    let mut e = value(&rt, rt.alloc(), "x = 1");
     assert!(rt; !walk_expr(&Unassign {}, Place::Callee, &mut e).expect(&rt, "a walk"));
     assert!(rt; walk_expr(&Unassign {}, Place::Value, &mut e).expect(&rt, "a walk"));
     assert!(rt; is_number(&e));
@@ -80,7 +80,7 @@ fn expressions_are_walked(rt: HostRuntime) {
 
 #[test]
 fn statements_are_walked(rt: HostRuntime) {
-    let mut script = script_of(&rt, rt.alloc(), "x = 1; x = 1;");
+    let mut script = read_as_script(&rt, rt.alloc(), "x = 1; x = 1;");
     let Some(first) = script.body.first_mut() else {
         rt.panic("a statement")
     };
@@ -100,21 +100,21 @@ fn is_walked(rt: &impl Abort, stmts: &mut Vec<Stmt>) -> bool {
 
 #[test]
 fn declarations_are_walked(rt: HostRuntime) {
-    let mut script = script_of(&rt, rt.alloc(), "var x = x = 1;");
+    let mut script = read_as_script(&rt, rt.alloc(), "var x = x = 1;");
     assert!(rt; is_walked(&rt, &mut script.body));
     assert!(rt; !is_walked(&rt, &mut script.body));
 }
 
 #[test]
 fn scripts_are_walked(rt: HostRuntime) {
-    let mut script = script_of(&rt, rt.alloc(), "x = 1;");
+    let mut script = read_as_script(&rt, rt.alloc(), "x = 1;");
     assert!(rt; walk_script(&Unassign {}, &mut script).expect(&rt, "a walk"));
     assert!(rt; ends_in_number(&script.body));
 }
 
 #[test]
 fn modules_are_walked(rt: HostRuntime) {
-    let mut whole = module_of(&rt, rt.alloc(), "x = 1;");
+    let mut whole = read(&rt, rt.alloc(), "x = 1;");
     let copy = rewrite(&Unassign {}, &whole).expect(&rt, "a walk");
     assert!(rt; copy.changed && copy.module != whole);
     assert!(rt; walk_module(&Unassign {}, &mut whole).expect(&rt, "a walk"));

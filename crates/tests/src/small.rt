@@ -1,9 +1,9 @@
 //! Two passes that undo one another, and one that refuses.
 ghost use Rattle.std.specs.Prelude.{◌≡◌, Bool, true, false, IfOk, ⊤};
 ghost use Rattle.swc_ast.specs.Modules.{item_tree, module_tree};
-ghost use Rattle.tree_tests.specs.Turns.{break_tree, empty_tree, long_tree, short_tree, turns, leaves};
+ghost use Rattle.tests.specs.Turns.{break_tree, empty_tree, long_tree, short_tree, turns, leaves};
 ghost use Rattle.std.proofs.Common.{rules};
-ghost use Rattle.tree_tests.specs.TurnsLaws.{turns_lawful, leaves_lawful};
+ghost use Rattle.tests.specs.TurnsLaws.{turns_lawful, leaves_lawful};
 
 use std::alloc::{AllocError, Global};
 use swc_ast::{

@@ -1,5 +1,5 @@
 //! What is read: spans, contexts, templates, and texts that are long, wide and deep.
-use crate::texts::{module_of, unresolved, value_of};
+use crate::texts::{read, unresolved, value};
 use core_trees::is_core;
 use std::alloc::{AllocError, Global};
 use std::process::Abort;
@@ -29,7 +29,7 @@ fn contexts_go_on_at_the_first_mark(rt: HostRuntime) {
 
 #[test]
 fn templates_are_cooked(rt: HostRuntime) {
-    let read = value_of(&rt, rt.alloc(), "`a\r\nb${c}\\x41\\\r\n\r`");
+    let read = value(&rt, rt.alloc(), "`a\r\nb${c}\\x41\\\r\n\r`");
     let Expr::Tpl(node) = &read else {
         rt.panic("a template")
     };
@@ -54,8 +54,8 @@ const LONG: &str =
 #[test]
 fn a_long_text_is_read_twice(rt: HostRuntime) {
     let alloc = rt.alloc();
-    let whole = module_of(&rt, alloc, LONG);
-    assert!(rt; whole == module_of(&rt, alloc, LONG));
+    let whole = read(&rt, alloc, LONG);
+    assert!(rt; whole == read(&rt, alloc, LONG));
     let shown = format!(in alloc; "{whole:?}").expect(&rt, "a text");
     assert!(rt; shown.len() > LONG.len());
 }
@@ -136,7 +136,7 @@ fn nested(alloc: Global, opens: &str, inside: &str) -> Result<String, AllocError
 
 /// Tries that a text is read as a tree of the core.
 fn reads(rt: &impl Abort, alloc: Global, text: Result<String, AllocError>) {
-    let module = module_of(rt, alloc, text.expect(rt, "a text").as_str());
+    let module = read(rt, alloc, text.expect(rt, "a text").as_str());
     assert!(rt; is_resolved(alloc, &module, unresolved(rt)).expect(rt, "an answer"));
     assert!(rt; is_core(alloc, &module).expect(rt, "an answer"));
 }

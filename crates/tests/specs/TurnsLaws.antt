@@ -10,7 +10,7 @@ use Rattle.swc_ast.specs.Run.{Same}
 use Rattle.meaning_proofs.proofs.Observations.{same_itself}
 use Rattle.static_proofs.proofs.Bare.{weight_bare}
 use Rattle.swc_pass.specs.Pass.{IsLawful, SameBare, TellsChange}
-use Rattle.tree_tests.specs.Turns.{long_tree, short_tree, turned_from, turned_to, Turned, turns, leaves}
+use Rattle.tests.specs.Turns.{long_tree, short_tree, turned_from, turned_to, Turned, turns, leaves}
 
 mutual
   aimed_bare : (g : Targets) (t : Tree) → aimed g (bare t) ≡ aimed g t
