@@ -1,8 +1,7 @@
 //! The names that imports of given modules bind.
 ghost use Rattle.std.specs.Prelude.{◌≡◌, ◌∷◌, ◌++◌, [], IfOk, OnOk};
 ghost use Rattle.swc_ast.specs.Modules.{import_specifier_tree, import_tree, item_tree};
-ghost use Rattle.swc_ast.specs.Parts.{list_trees, ident_name, option_word_text};
-ghost use Rattle.swc_ast.specs.Run.{imported_text as text_imported};
+ghost use Rattle.swc_ast.specs.Parts.{list_trees, ident_name};
 ghost use Rattle.swc_ast.specs.Tree.{same_name, label_of, children_of};
 ghost use Rattle.const_imports.specs.Locals as spec;
 ghost use Rattle.const_imports.specs.Locals.{own_role, specifier_locals, specifiers_locals, given_label, item_locals, locals};
@@ -10,8 +9,9 @@ ghost use Rattle.const_imports.specs.Views as view;
 ghost use Rattle.const_imports.specs.Views.{imported_of, locals_of};
 
 use crate::given::GivenModules;
+use given_shield::imported_text;
 use std::alloc::{AllocError, Global};
-use swc_ast::{Ident, ImportDecl, ImportNamedSpecifier, ImportSpecifier, ModuleDecl, ModuleItem};
+use swc_ast::{Ident, ImportDecl, ImportSpecifier, ModuleDecl, ModuleItem};
 
 /// What is imported of a module.
 #[derive(Clone, Copy)]
@@ -57,16 +57,6 @@ impl<'a> Local<'a> {
             Imported::Export(_) | Imported::Default => Role::Constant,
             Imported::Namespace => Role::Namespace(self.source),
         }
-    }
-}
-
-/// The name under which a module exports what a specifier imports.
-fn imported_text<'a>(n: &'a ImportNamedSpecifier) -> &'a str
-    ensures { result.now ≡ text_imported (ident_name n.now.local) (option_word_text n.now.imported) }
-{
-    match &n.imported {
-        Some(word) => word.sym.as_str(),
-        None => n.local.sym.as_str(),
     }
 }
 

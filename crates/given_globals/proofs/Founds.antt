@@ -17,7 +17,8 @@ use Rattle.swc_expr_map.specs.Entries.{number_of}
 use Rattle.swc_expr_map.proofs.Shaped.{number_of_shape}
 use Rattle.swc_pass.specs.Given.{Found, nothing, a_value}
 use Rattle.swc_pass.specs.Inlined.{shape, leads_outside, is_nothing, or_else, by_value, by_plain, by_expression, by_name, is_env, by_env, by_key, by_part}
-use Rattle.given_globals.specs.Globals.{expressions, mark_of, global_number, given_of, answers_of}
+use Rattle.given_shield.specs.Names.{mark_of}
+use Rattle.given_globals.specs.Globals.{expressions, global_number, given_of, answers_of}
 use Rattle.given_globals.specs.Rows.{key_of_tree, written_key, is_read}
 use Rattle.given_globals.specs.declared.settings.Settings.{Settings}
 use Rattle.given_globals.proofs.Forms.{is_name, is_member}

@@ -8,7 +8,8 @@ use Rattle.swc_expr_map.specs.Entries.{has_key, number_of}
 use Rattle.swc_pass.specs.Given.{Found, nothing, a_value, a_plain}
 use Rattle.swc_pass.specs.Inlined.{shape, leads_outside, or_else, by_value, by_plain, by_expression, is_env, by_key, by_part}
 use Rattle.given_globals.specs.Globals as of
-use Rattle.given_globals.specs.Globals.{row_name, expressions, expression_rows, global_rows, rows_of, mark_of, global_number, given_of, answers_of}
+use Rattle.given_shield.specs.Names.{mark_of}
+use Rattle.given_globals.specs.Globals.{row_name, expressions, expression_rows, global_rows, rows_of, global_number, given_of, answers_of}
 use Rattle.given_globals.specs.declared.settings.Settings.{Settings}
 
 some_same : {A : Type 0} {x y : A} → Some x ≡ Some y → x ≡ y

@@ -4,21 +4,15 @@ use Rattle.std.specs.Borrow.{Bor}
 use Rattle.std.specs.BTreeMap.{BTreeMap, get_by_text}
 use Rattle.std.specs.declared.alloc.Global.{Global}
 use Rattle.std.specs.declared.string.String.{String}
-use Rattle.swc_ast.specs.Marks.{mark_number}
 use Rattle.swc_ast.specs.Tree.{Text, Tree}
 use Rattle.swc_ast.specs.Views.{expr_tree}
 use Rattle.swc_ast.specs.declared.expressions.Expr.{Expr}
-use Rattle.swc_ast.specs.declared.names.Mark.{Mark}
+use Rattle.given_shield.specs.Names.{mark_of}
 use Rattle.swc_expr_map.specs.Entries.{key_of, value_of, number_of, leading_name}
 use Rattle.swc_expr_map.specs.declared.entry.Entry.{Entry}
 use Rattle.swc_pass.specs.Given.{Answers}
 use Rattle.swc_pass.specs.Inlined.{Given, inlined}
 use Rattle.given_globals.specs.declared.settings.Settings.{Settings}
-
--- the mark of names that no scope binds, beside the empty context
-abbrev pub mark_of : Option Mark → ℕ
-mark_of None = 0
-mark_of (Some m) = mark_number m
 
 abbrev pub entries_of : Option (Bor (List Entry)) → List Entry
 entries_of None = []

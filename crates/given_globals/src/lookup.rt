@@ -10,15 +10,17 @@ ghost use Rattle.swc_ast.specs.Meaning.{is_unresolved as name_is_unresolved};
 ghost use Rattle.swc_ast.specs.Parts.{ident_name, ident_tree, lit_tree};
 ghost use Rattle.swc_ast.specs.Views.{expr_tree};
 ghost use Rattle.swc_pass.specs.Inlined.{by_value, by_plain, by_expression, by_name, by_part, is_env as tree_is_env, leads_outside as tree_leads_outside};
-ghost use Rattle.given_globals.specs.Globals.{expressions, row_name, rows_of, mark_of, global_number, told_name, given_of, answers_of};
+ghost use Rattle.given_shield.specs.Names.{mark_of};
+ghost use Rattle.given_globals.specs.Globals.{expressions, row_name, rows_of, global_number, told_name, given_of, answers_of};
 ghost use Rattle.given_globals.specs.Rows.{texts, found_of, key_of_tree, written_key};
 
 use crate::found::Found;
 use crate::names::{push_expressions, push_globals};
 use crate::settings::Settings;
+use given_shield::is_unresolved;
 use std::alloc::{AllocError, Global};
 use std::cmp::Ordering;
-use swc_ast::{Expr, Ident, Lit, MemberExpr, MemberProp, SyntaxContext};
+use swc_ast::{Expr, Ident, Lit, MemberExpr, MemberProp};
 
 /// What is given, ready to be looked up.
 #[derive(Drop)]
@@ -168,13 +170,7 @@ impl<'a> Lookup<'a> {
     fn is_unresolved(&self, name: &Ident) -> bool
         ensures { result ≡ name_is_unresolved (mark_of self.now.settings.mark) (ident_name name.now) }
     {
-        if name.ctxt == SyntaxContext::empty() {
-            return true;
-        }
-        match self.settings.mark {
-            Some(mark) => name.ctxt == SyntaxContext::empty().apply_mark(mark),
-            None => false,
-        }
+        is_unresolved(self.settings.mark, name)
     }
 
     /// The number of a name which no scope binds.

@@ -1,4 +1,4 @@
-//! What may not stand bare where it is put.
+//! What is given for names: which names it is given for, and what may not stand bare where it is put.
 #![tactic(auto)]
 
 ghost use Rattle.std.specs.Prelude.{◌≡◌, IfOk};
@@ -8,6 +8,9 @@ ghost use Rattle.swc_ast.specs.Parts.{ident_name};
 ghost use Rattle.swc_ast.specs.Views.{expr_tree};
 ghost use Rattle.given_shield.specs.Shield.{is_bare_callee as bare_callee, is_bare_operand as bare_operand, is_bare as bare, guarded as guarded_tree, shield};
 
+mod names;
+
+pub use names::{imported_text, is_unresolved};
 use std::alloc::{AllocError, Global};
 use swc_ast::{DUMMY_SP, Expr, Ident, Lit, Number, SeqExpr};
 use tree_put::Spot;

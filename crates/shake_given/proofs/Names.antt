@@ -14,7 +14,8 @@ use Rattle.swc_expr_map.specs.Order.{key_cmp, same_key}
 use Rattle.swc_expr_map.proofs.Ordered.{keys_ordered}
 use Rattle.swc_pass.specs.Given.{Found, nothing, a_value, a_plain}
 use Rattle.swc_pass.specs.Inlined.{Given, shape, or_else, by_value, by_plain, by_expression, is_env, by_env, by_key, by_part, leads_outside}
-use Rattle.given_globals.specs.Globals.{expression_rows, global_row, rows_of, given_of, answers_of, mark_of}
+use Rattle.given_shield.specs.Names.{mark_of}
+use Rattle.given_globals.specs.Globals.{expression_rows, global_row, rows_of, given_of, answers_of}
 use Rattle.given_globals.specs.declared.settings.Settings.{Settings}
 use Rattle.given_rules.specs.Givable.{IsGivable, AllGivable}
 use Rattle.shake_given.specs.declared.given.GivenNames.{GivenNames}

@@ -19,7 +19,8 @@ use Rattle.given_rules.proofs.Cycles.{no_cycle}
 use Rattle.given_rules.proofs.Givable.{puts_givable, walked_givable}
 use Rattle.given_rules.proofs.Instances.{inline_same}
 use Rattle.given_rules.proofs.Kept.{PutsGivable, put_resolved, put_valid, put_core}
-use Rattle.given_globals.specs.Globals.{mark_of, answers_of}
+use Rattle.given_shield.specs.Names.{mark_of}
+use Rattle.given_globals.specs.Globals.{answers_of}
 use Rattle.given_globals.specs.declared.settings.Settings.{Settings}
 use Rattle.swc_inline_globals.specs.Answers.{Inlined}
 use Rattle.swc_inline_globals.specs.Made.{IsMade, WalkGives}

@@ -20,7 +20,8 @@ use Rattle.given_rules.specs.Walk.{answer, found_at, gathered}
 use Rattle.given_rules.specs.Worked.{Finished, put_found, put_text, put_expression}
 use Rattle.given_rules.proofs.Covered.{Spanless}
 use Rattle.given_rules.proofs.Instances.{inlined_spanless}
-use Rattle.given_globals.specs.Globals.{mark_of, given_of, answers_of}
+use Rattle.given_shield.specs.Names.{mark_of}
+use Rattle.given_globals.specs.Globals.{given_of, answers_of}
 use Rattle.given_globals.specs.Rows.{found_of}
 use Rattle.given_globals.specs.declared.settings.Settings.{Settings}
 use Rattle.given_globals.proofs.Founds.{found_none}

@@ -1,7 +1,8 @@
 use Rattle.std.proofs.Common.{option_map, sym, ap, ◌∙◌}
 use Rattle.swc_ast.specs.Views.{expr_tree}
 use Rattle.swc_pass.specs.Inlined.{is_env}
-use Rattle.given_globals.specs.Globals.{mark_of, given_of}
+use Rattle.given_shield.specs.Names.{mark_of}
+use Rattle.given_globals.specs.Globals.{given_of}
 use Rattle.given_globals.proofs.Founds.{member_env}
 use Rattle.given_globals.proofs.Values.{copied}
 use Rattle.given_globals.proofs.lookup.Lookup.env.Goals as goal

@@ -3,7 +3,8 @@ use Rattle.swc_ast.specs.Expressions.{member_node}
 use Rattle.swc_ast.specs.Views.{expr_tree}
 use Rattle.swc_ast.proofs.Equations.{expr_tree-Ident}
 use Rattle.swc_pass.specs.Inlined.{is_nothing, by_expression}
-use Rattle.given_globals.specs.Globals.{mark_of, given_of}
+use Rattle.given_shield.specs.Names.{mark_of}
+use Rattle.given_globals.specs.Globals.{given_of}
 use Rattle.given_globals.proofs.Forms.{is_name, other_name}
 use Rattle.given_globals.proofs.Founds.{none_told, is_none_nothing, env_no_name, env_dot, and_stops, and_goes}
 use Rattle.given_globals.proofs.lookup.Lookup.is_env_member.Goals as goal

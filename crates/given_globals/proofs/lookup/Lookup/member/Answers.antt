@@ -2,7 +2,8 @@ use Rattle.std.proofs.Common.{option_map, sym, ap, ◌∙◌}
 use Rattle.swc_ast.specs.Views.{expr_tree}
 use Rattle.swc_pass.specs.Given.{nothing, a_plain}
 use Rattle.swc_pass.specs.Inlined.{by_value, by_plain, by_part}
-use Rattle.given_globals.specs.Globals.{mark_of, given_of}
+use Rattle.given_shield.specs.Names.{mark_of}
+use Rattle.given_globals.specs.Globals.{given_of}
 use Rattle.given_globals.proofs.Founds.{found_chain, found_part}
 use Rattle.given_globals.proofs.lookup.Lookup.member.Goals as goal
 
