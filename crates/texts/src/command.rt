@@ -1,5 +1,5 @@
 //! Runs of the program `shake`, with streams in memory.
-use crate::words::word_of;
+use crate::words::push_word;
 use shake_run::run;
 use std::alloc::Global;
 use std::fmt::Write;
@@ -15,59 +15,81 @@ impl CommandLine {
     pub fn parse(alloc: Global, line: &str) -> anyhow::Result<CommandLine> {
         let mut words = Vec::new(alloc);
         for word in line.split_whitespace() {
-            words.push(word_of(alloc, word)?)?;
+            push_word(alloc, &mut words, word)?;
         }
         Ok(CommandLine { words })
     }
 
-    /// What the program writes, or its status and what it says, with a text as its input.
-    pub fn run(&self, alloc: Global, text: &str) -> anyhow::Result<String> {
+    /// Tells what the program writes, or its status and what it says, with a text as its input.
+    pub fn run(&self, alloc: Global, told: &mut String, text: &str) -> anyhow::Result<()> {
         let mut input = text.as_bytes();
         let (mut output, mut errors) = (Vec::new(alloc), Vec::new(alloc));
         let words = self.words.as_slice();
         let status = run(alloc, words, &mut input, &mut output, &mut errors);
         let is_read = input.len() != text.len();
-        let output = String::from_utf8_lossy(alloc, output.as_slice())?;
-        let said = String::from_utf8_lossy(alloc, errors.as_slice())?;
-        if status == 0 {
-            written(alloc, output.as_str(), said.as_str())
-        } else {
-            refused(alloc, status, output.as_str(), said.as_str(), is_read)
-        }
+        push_run(
+            alloc,
+            told,
+            status,
+            output.as_slice(),
+            errors.as_slice(),
+            is_read,
+        )
     }
 }
 
-/// What is told of a run that succeeds.
-fn written(alloc: Global, output: &str, said: &str) -> anyhow::Result<String> {
-    let mut told = String::from_str(alloc, output)?;
+/// Tells of a run, by the bytes that it writes and says.
+fn push_run(
+    alloc: Global,
+    told: &mut String,
+    status: u8,
+    output: &[u8],
+    errors: &[u8],
+    is_read: bool,
+) -> anyhow::Result<()> {
+    let output = String::from_utf8_lossy(alloc, output)?;
+    let said = String::from_utf8_lossy(alloc, errors)?;
+    if status == 0 {
+        push_written(told, output.as_str(), said.as_str())
+    } else {
+        push_failed(told, status, output.as_str(), said.as_str(), is_read)
+    }
+}
+
+/// Tells of a run that succeeds.
+fn push_written(told: &mut String, output: &str, said: &str) -> anyhow::Result<()> {
+    told.push_str(output)?;
     if output.is_empty() {
         told.push_str("(nothing)\n")?;
     } else if !output.ends_with('\n') {
         told.push_str("\nWRONG: the last line has no end\n")?;
     }
     if !said.is_empty() {
-        write!(told, "WRONG: something is said: {said}")?;
+        told.push_str("WRONG: something is said: ")?;
+        told.push_str(said)?;
     }
-    Ok(told)
+    Ok(())
 }
 
-/// What is told of a run that fails.
-fn refused(
-    alloc: Global,
+/// Tells of a run that fails.
+fn push_failed(
+    told: &mut String,
     status: u8,
     output: &str,
     said: &str,
     is_read: bool,
-) -> anyhow::Result<String> {
-    let mut told = format!(in alloc; "status {status}: {said}")?;
+) -> anyhow::Result<()> {
+    write!(told, "status {status}: ")?;
+    told.push_str(said)?;
     if !said.ends_with('\n') {
         told.push_str("\nWRONG: what is said has no end\n")?;
     }
     if !output.is_empty() {
-        write!(told, "WRONG: something is written: {output}")?;
+        told.push_str("WRONG: something is written: ")?;
+        told.push_str(output)?;
     }
     if status == 2 && is_read {
         told.push_str("WRONG: the input is read\n")?;
     }
-    Ok(told)
+    Ok(())
 }

@@ -1,6 +1,6 @@
 //! What is given for names, for chains of members, for members of `process.env` and for types of names.
 use anyhow::{Context, bail};
-use std::alloc::{AllocError, Global};
+use std::alloc::Global;
 use std::collections::BTreeMap;
 use swc_ast::{Expr, Mark};
 use swc_expr_map::GlobalExprMap;
@@ -25,12 +25,17 @@ impl Globals {
             chains: GlobalExprMap::new(alloc),
             types: BTreeMap::new(alloc),
         };
+        globals.read(alloc, given, mark)?;
+        Ok(globals)
+    }
+
+    fn read(&mut self, alloc: Global, given: &[String], mark: Mark) -> anyhow::Result<()> {
         for word in given {
             let (key, text) = word.as_str().split_once('=').context("a value")?;
             let (kind, name) = key.split_once(':').unwrap_or(("", key));
-            globals.add(alloc, kind, name, text, mark)?;
+            self.add(alloc, kind, name, text, mark)?;
         }
-        Ok(globals)
+        Ok(())
     }
 
     fn add(
@@ -41,18 +46,28 @@ impl Globals {
         text: &str,
         mark: Mark,
     ) -> anyhow::Result<()> {
-        if kind == "typeof" {
-            let name = String::from_str(alloc, key)?;
-            self.types.insert(name, String::from_str(alloc, text)?)?;
-            return Ok(());
-        }
-        let value = read_expr(alloc, text, mark)?;
         match kind {
-            "" => add_to(alloc, &mut self.names, key, value)?,
-            "env" => add_to(alloc, &mut self.envs, key, value)?,
-            "chain" => self.chains.insert(read_expr(alloc, key, mark)?, value)?,
+            "" => add_to(alloc, &mut self.names, key, text, mark),
+            "env" => add_to(alloc, &mut self.envs, key, text, mark),
+            "chain" => self.add_chain(alloc, key, text, mark),
+            "typeof" => {
+                let name = String::from_str(alloc, key)?;
+                self.types.insert(name, String::from_str(alloc, text)?)?;
+                Ok(())
+            }
             _ => bail!("nothing is given for {kind}"),
         }
+    }
+
+    fn add_chain(
+        &mut self,
+        alloc: Global,
+        chain: &str,
+        text: &str,
+        mark: Mark,
+    ) -> anyhow::Result<()> {
+        let chain = read_expr(alloc, chain, mark)?;
+        self.chains.insert(chain, read_expr(alloc, text, mark)?)?;
         Ok(())
     }
 
@@ -62,12 +77,15 @@ impl Globals {
     }
 }
 
+/// Gives a name the expression of a text.
 fn add_to(
     alloc: Global,
     values: &mut BTreeMap<String, Expr>,
-    key: &str,
-    value: Expr,
-) -> Result<(), AllocError> {
-    values.insert(String::from_str(alloc, key)?, value)?;
+    name: &str,
+    text: &str,
+    mark: Mark,
+) -> anyhow::Result<()> {
+    let name = String::from_str(alloc, name)?;
+    values.insert(name, read_expr(alloc, text, mark)?)?;
     Ok(())
 }

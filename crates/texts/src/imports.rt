@@ -10,6 +10,11 @@ pub type Exports = BTreeMap<String, BTreeMap<String, String>>;
 /// What words give, each `MODULE:NAME=TEXT`.
 pub fn exports(alloc: Global, given: &[String]) -> anyhow::Result<Exports> {
     let mut exports = BTreeMap::new(alloc);
+    read(alloc, &mut exports, given)?;
+    Ok(exports)
+}
+
+fn read(alloc: Global, exports: &mut Exports, given: &[String]) -> anyhow::Result<()> {
     for word in given {
         match Flag::of("--const", word.as_str()) {
             Some(
@@ -18,11 +23,11 @@ pub fn exports(alloc: Global, given: &[String]) -> anyhow::Result<Exports> {
                     name,
                     value,
                 },
-            ) => add(alloc, &mut exports, module, name, value)?,
+            ) => add(alloc, exports, module, name, value)?,
             _ => bail!("{word} gives no export"),
         }
     }
-    Ok(exports)
+    Ok(())
 }
 
 fn add(

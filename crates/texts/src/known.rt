@@ -1,6 +1,7 @@
 //! What is known of expressions.
 use anyhow::Context;
 use std::alloc::Global;
+use std::fmt::Write;
 use swc_ast::{Expr, Mark, Module, ModuleItem, Stmt, SyntaxContext};
 use swc_text::read_module;
 use swc_utils::{ExprCtx, ExprExt, is_literal};
@@ -29,34 +30,46 @@ impl Question {
     }
 }
 
-/// What is known of the expression that a text ends with.
-pub fn known(alloc: Global, what: Question, text: &str, mark: Mark) -> anyhow::Result<String> {
+/// Tells what is known of the expression that a text ends with.
+pub fn known(
+    alloc: Global,
+    told: &mut String,
+    what: Question,
+    text: &str,
+    mark: Mark,
+) -> anyhow::Result<()> {
     let ctx = ExprCtx {
         unresolved_ctxt: SyntaxContext::empty().apply_mark(mark),
         is_unresolved_ref_safe: false,
     };
     let module = read_module(alloc, text, mark)?;
     let expr = last_expression(&module).context("an expression at the end")?;
-    answer(alloc, what, expr, &ctx)
+    push_known(alloc, told, what, expr, &ctx)
 }
 
-fn answer(alloc: Global, what: Question, expr: &Expr, ctx: &ExprCtx) -> anyhow::Result<String> {
-    Ok(match what {
+fn push_known(
+    alloc: Global,
+    told: &mut String,
+    what: Question,
+    expr: &Expr,
+    ctx: &ExprCtx,
+) -> anyhow::Result<()> {
+    match what {
         Question::Truth => {
             let (purity, truth) = expr.cast_to_bool(ctx);
             let pure_truth = expr.as_pure_bool(ctx);
-            format!(in alloc; "{purity:?}, {truth:?}; where pure: {pure_truth:?}")?
+            write!(told, "{purity:?}, {truth:?}; where pure: {pure_truth:?}")?;
         }
-        Question::Number => format!(in alloc; "{:?}", expr.as_pure_number(ctx))?,
-        Question::Text => format!(in alloc; "{:?}", expr.as_pure_string(alloc, ctx)?)?,
-        Question::Type => format!(in alloc; "{:?}", expr.get_type(ctx))?,
-        Question::Facts => facts(alloc, expr, ctx)?,
-    })
+        Question::Number => write!(told, "{:?}", expr.as_pure_number(ctx))?,
+        Question::Text => write!(told, "{:?}", expr.as_pure_string(alloc, ctx)?)?,
+        Question::Type => write!(told, "{:?}", expr.get_type(ctx))?,
+        Question::Facts => push_facts(told, expr, ctx)?,
+    }
+    Ok(())
 }
 
-/// What holds of an expression.
-fn facts(alloc: Global, expr: &Expr, ctx: &ExprCtx) -> anyhow::Result<String> {
-    let mut told = String::new(alloc);
+/// Tells what holds of an expression.
+fn push_facts(told: &mut String, expr: &Expr, ctx: &ExprCtx) -> anyhow::Result<()> {
     for (holds, word) in [
         (expr.is_undefined(ctx), "undefined, "),
         (expr.is_nan(ctx), "NaN, "),
@@ -74,7 +87,7 @@ fn facts(alloc: Global, expr: &Expr, ctx: &ExprCtx) -> anyhow::Result<String> {
             told.push_str(word)?;
         }
     }
-    Ok(told)
+    Ok(())
 }
 
 fn last_expression(module: &Module) -> Option<&Expr> {

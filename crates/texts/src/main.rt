@@ -17,28 +17,27 @@ mod words;
 
 use anyhow::Context;
 use order::Order;
-use std::alloc::Global;
-use std::fmt::Write;
+use std::alloc::{AllocError, Global};
 use std::io;
 use swc_ast::Mark;
 use words::LINE_END;
 
 fn main(rt: HostRuntime) -> anyhow::Result<()> {
     let input = io::read_to_string(rt.alloc(), rt.stdin())?;
-    let output = told(rt.alloc(), input.as_str())?;
+    let mut output = String::new(rt.alloc());
+    push_lines(rt.alloc(), &mut output, input.as_str())?;
     print!(rt; "{output}")?;
     Ok(())
 }
 
-/// The lines of an input, with what is told of its texts.
-fn told(alloc: Global, input: &str) -> anyhow::Result<String> {
+/// Writes the lines of an input, with what is told of its texts.
+fn push_lines(alloc: Global, output: &mut String, input: &str) -> anyhow::Result<()> {
     let mark = Mark::new(1).context("a mark")?;
     let mut order = Order::parse(alloc, "print", mark)?;
-    let mut output = String::new(alloc);
     for line in input.lines() {
-        push_line(alloc, &mut output, &mut order, line, mark)?;
+        push_line(alloc, output, &mut order, line, mark)?;
     }
-    Ok(output)
+    Ok(())
 }
 
 /// Writes a line, with what is told of it if it is a text.
@@ -49,21 +48,41 @@ fn push_line(
     line: &str,
     mark: Mark,
 ) -> anyhow::Result<()> {
-    writeln!(output, "{line}")?;
+    output.push_str(line)?;
+    output.push('\n')?;
     if let Some(words) = line.strip_prefix(": ") {
         *order = Order::parse(alloc, words, mark)?;
     } else if !line.starts_with("# ") {
         let text = text_of(alloc, line)?;
-        let answer = order.answer(alloc, text.as_str(), mark)?;
-        for told in answer.lines() {
-            writeln!(output, "  {told}")?;
-        }
+        push_answer(alloc, output, order, text.as_str(), mark)?;
+    }
+    Ok(())
+}
+
+/// Writes what is told of a text.
+fn push_answer(
+    alloc: Global,
+    output: &mut String,
+    order: &mut Order,
+    text: &str,
+    mark: Mark,
+) -> anyhow::Result<()> {
+    let mut told = String::new(alloc);
+    order.answer(alloc, &mut told, text, mark)?;
+    push_told(output, told.as_str())
+}
+
+fn push_told(output: &mut String, told: &str) -> anyhow::Result<()> {
+    for line in told.lines() {
+        output.push_str("  ")?;
+        output.push_str(line)?;
+        output.push('\n')?;
     }
     Ok(())
 }
 
 /// The text that a line stands for.
-fn text_of(alloc: Global, line: &str) -> anyhow::Result<String> {
+fn text_of(alloc: Global, line: &str) -> Result<String, AllocError> {
     let mut text = String::new(alloc);
     for c in line.chars() {
         text.push(if c == LINE_END { '\n' } else { c })?;

@@ -8,11 +8,11 @@ use crate::names::{named, weighed};
 use crate::passes::AnyPass;
 use crate::peel::peeled;
 use crate::rounds::rounds;
-use crate::whole::{of_both, of_module};
+use crate::whole::{Asked, of_both, of_module, push_refusal};
 use crate::words::Words;
 use anyhow::bail;
 use std::alloc::Global;
-use swc_ast::Mark;
+use swc_ast::{Mark, PassError};
 use swc_const_modules::const_modules;
 use swc_dce::{TreeShaker, dce};
 use swc_optimization::Config;
@@ -24,7 +24,7 @@ enum Task {
     Run(AnyPass),
     Put(Globals),
     /// Each text is refused, since what is given is.
-    Refuse(String),
+    Refuse(PassError),
     Shake(CommandLine),
     Peel(TreeShaker, usize),
     Repeat(Vec<String>),
@@ -53,14 +53,29 @@ impl Task {
 
     /// The tasks that are given something.
     fn with(alloc: Global, name: &str, given: &[String], mark: Mark) -> anyhow::Result<Task> {
-        Ok(match name {
-            "globals" => Task::Put(Globals::parse(alloc, given, mark)?),
-            "imports" => match const_modules(alloc, &exports(alloc, given)?, mark) {
-                Ok(pass) => Task::Run(AnyPass::Imports(pass)),
-                Err(refusal) => Task::Refuse(format!(in alloc; "error: {refusal}")?),
-            },
+        match name {
+            "globals" => Ok(Task::Put(Globals::parse(alloc, given, mark)?)),
+            "imports" => Task::of_exports(alloc, given, mark),
             _ => bail!("nothing is given to {name}"),
+        }
+    }
+
+    /// The task that puts what is given for imports.
+    fn of_exports(alloc: Global, given: &[String], mark: Mark) -> anyhow::Result<Task> {
+        let exports = exports(alloc, given)?;
+        Ok(match const_modules(alloc, &exports, mark) {
+            Ok(pass) => Task::Run(AnyPass::Imports(pass)),
+            Err(refusal) => Task::Refuse(refusal),
         })
+    }
+
+    /// The task of a name and the words behind it.
+    fn of_words(alloc: Global, name: &str, words: Words, mark: Mark) -> anyhow::Result<Task> {
+        if matches!(name, "globals" | "imports") || !words.given.is_empty() {
+            Task::with(alloc, name, words.given.as_slice(), mark)
+        } else {
+            Task::parse(name, mark, words.config)
+        }
     }
 }
 
@@ -86,54 +101,50 @@ impl Order {
                 counts_rounds: false,
             });
         }
-        let Words {
-            config,
-            is_for_modules,
-            counts_rounds,
-            given,
-        } = Words::parse(alloc, rest)?;
-        let task = if matches!(name, "globals" | "imports") || !given.is_empty() {
-            Task::with(alloc, name, given.as_slice(), mark)?
-        } else {
-            Task::parse(name, mark, config)?
-        };
+        let words = Words::parse(alloc, rest)?;
+        let (is_for_modules, counts_rounds) = (words.is_for_modules, words.counts_rounds);
         Ok(Order {
-            task,
+            task: Task::of_words(alloc, name, words, mark)?,
             is_for_modules,
             counts_rounds,
         })
     }
 
-    /// What is told of a text.
-    pub fn answer(&mut self, alloc: Global, text: &str, mark: Mark) -> anyhow::Result<String> {
+    /// Tells of a text, where nothing is told yet.
+    pub fn answer(
+        &mut self,
+        alloc: Global,
+        told: &mut String,
+        text: &str,
+        mark: Mark,
+    ) -> anyhow::Result<()> {
         let both = !self.is_for_modules;
+        let asked = Asked {
+            text,
+            mark,
+            counts_rounds: self.counts_rounds,
+        };
         match &mut self.task {
-            Task::Run(pass) => {
-                if both {
-                    of_both(alloc, pass, text, mark, self.counts_rounds)
-                } else {
-                    of_module(alloc, pass, text, mark, self.counts_rounds)
-                }
-            }
-            Task::Put(globals) => put(alloc, globals, text, mark),
-            Task::Refuse(told) => Ok(told.clone()?),
-            Task::Shake(command) => command.run(alloc, text),
-            Task::Peel(pass, most) => peeled(alloc, pass, *most, text, mark),
-            Task::Repeat(retained) => rounds(alloc, retained.as_slice(), text, mark),
-            Task::Compare => compared(alloc, text, mark, both),
-            Task::Read => match read_expr(alloc, text, mark) {
-                Ok(_) => Ok(String::from_str(alloc, "an expression")?),
-                Err(error) => Ok(format!(in alloc; "error: {error}")?),
-            },
-            Task::Name => named(alloc, text, mark, both),
-            Task::Weigh => weighed(alloc, text, mark),
-            Task::Know(what) => known(alloc, *what, text, mark),
+            Task::Run(pass) if both => of_both(alloc, told, pass, asked),
+            Task::Run(pass) => of_module(alloc, told, pass, asked),
+            Task::Put(globals) => of_both(alloc, told, &mut globals.pass(mark), asked),
+            Task::Refuse(refusal) => push_refusal(told, "error: ", refusal),
+            Task::Shake(command) => command.run(alloc, told, text),
+            Task::Peel(pass, most) => peeled(alloc, told, pass, *most, text, mark),
+            Task::Repeat(retained) => rounds(alloc, told, retained.as_slice(), text, mark),
+            Task::Compare => compared(alloc, told, text, mark, both),
+            Task::Read => push_read(alloc, told, text, mark),
+            Task::Name => named(alloc, told, text, mark, both),
+            Task::Weigh => weighed(alloc, told, text, mark),
+            Task::Know(what) => known(alloc, told, *what, text, mark),
         }
     }
 }
 
-/// What is told of a text in which what is given is put.
-fn put(alloc: Global, globals: &Globals, text: &str, mark: Mark) -> anyhow::Result<String> {
-    let mut pass = globals.pass(mark);
-    of_both(alloc, &mut pass, text, mark, false)
+/// Tells whether a text is an expression.
+fn push_read(alloc: Global, told: &mut String, text: &str, mark: Mark) -> anyhow::Result<()> {
+    match read_expr(alloc, text, mark) {
+        Ok(_) => Ok(told.push_str("an expression")?),
+        Err(error) => push_refusal(told, "error: ", &error),
+    }
 }

@@ -1,28 +1,38 @@
 //! Rounds of the tree shaker that are done at once.
 use std::alloc::Global;
 use std::fmt::Write;
-use swc_ast::Mark;
+use swc_ast::{Mark, Module};
 use swc_dce::TreeShaker;
 use swc_pass::Pass;
 use swc_text::{print, read_module};
 
-/// How many rounds are done at once, `most` at most, and whether what they leave is what as many rounds leave one by one.
+/// Tells how many rounds are done at once, `most` at most, and whether what they leave is what as many rounds leave one by one.
 pub fn peeled(
     alloc: Global,
+    told: &mut String,
     pass: &mut TreeShaker,
     most: usize,
     text: &str,
     mark: Mark,
-) -> anyhow::Result<String> {
+) -> anyhow::Result<()> {
     let peeled = pass.peel(alloc, read_module(alloc, text, mark)?, most)?;
-    let left = print(alloc, &peeled.module)?;
-    let rounds = peeled.rounds;
-    let one_by_one = one_by_one(alloc, pass, rounds, text, mark)?;
-    let mut told = format!(in alloc; "{rounds} at once\n")?;
-    if left != one_by_one {
-        write!(told, "WRONG: one by one they leave\n{one_by_one}")?;
+    writeln!(told, "{} at once", peeled.rounds)?;
+    let one_by_one = one_by_one(alloc, pass, peeled.rounds, text, mark)?;
+    push_other(alloc, told, &peeled.module, one_by_one.as_str())
+}
+
+/// Tells what rounds leave one by one, if it isn't the text of a module.
+fn push_other(
+    alloc: Global,
+    told: &mut String,
+    module: &Module,
+    one_by_one: &str,
+) -> anyhow::Result<()> {
+    if print(alloc, module)?.as_str() != one_by_one {
+        told.push_str("WRONG: one by one they leave\n")?;
+        told.push_str(one_by_one)?;
     }
-    Ok(told)
+    Ok(())
 }
 
 /// What so many rounds leave.

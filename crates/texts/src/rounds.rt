@@ -1,5 +1,5 @@
 //! The simplifier beside its passes in a row, again and again.
-use std::alloc::Global;
+use std::alloc::{AllocError, Global};
 use std::fmt::Write;
 use swc_ast::Mark;
 use swc_branch::dead_branch_remover;
@@ -18,20 +18,21 @@ struct Outcome {
     changed: bool,
 }
 
-/// How many rounds a text has, with 0, 1, 2, 3 and 100 of them at most; below that the same where some names are retained.
+/// Tells how many rounds a text has, with 0, 1, 2, 3 and 100 of them at most; below that the same where some names are retained.
 pub fn rounds(
     alloc: Global,
+    told: &mut String,
     retained: &[String],
     text: &str,
     mark: Mark,
-) -> anyhow::Result<String> {
-    let mut told = String::from_str(alloc, "rounds:")?;
-    push_rounds(alloc, &mut told, &[], text, mark)?;
+) -> anyhow::Result<()> {
+    told.push_str("rounds:")?;
+    push_rounds(alloc, told, &[], text, mark)?;
     if !retained.is_empty() {
         told.push_str("retained:")?;
-        push_rounds(alloc, &mut told, retained, text, mark)?;
+        push_rounds(alloc, told, retained, text, mark)?;
     }
-    Ok(told)
+    Ok(())
 }
 
 fn push_rounds(
@@ -44,23 +45,34 @@ fn push_rounds(
     for most in [0, 1, 2, 3, 100] {
         let all = simplified(alloc, config(alloc, retained, most)?, text, mark)?;
         let row = repeated(alloc, config(alloc, retained, most)?, text, mark)?;
-        if all != row {
-            told.push_str(" WRONG:")?;
-        }
-        let reached = if all.reached { " reached" } else { "" };
-        write!(told, " {}{reached}", all.rounds)?;
+        push_count(told, all.rounds, all.reached, all == row)?;
     }
-    told.push_str("\n")?;
+    told.push('\n')?;
+    Ok(())
+}
+
+fn push_count(
+    told: &mut String,
+    rounds: usize,
+    reached: bool,
+    is_same: bool,
+) -> anyhow::Result<()> {
+    if !is_same {
+        told.push_str(" WRONG:")?;
+    }
+    write!(told, " {rounds}")?;
+    if reached {
+        told.push_str(" reached")?;
+    }
     Ok(())
 }
 
 /// What passes are told.
-fn config(alloc: Global, retained: &[String], most: usize) -> anyhow::Result<Config> {
+fn config(alloc: Global, retained: &[String], most: usize) -> Result<Config, AllocError> {
+    let retained = retained.to_vec(alloc)?;
     let mut config = Config::new(alloc);
     config.max_rounds = most;
-    for name in retained {
-        config.dce.top_retain.push(name.clone()?)?;
-    }
+    config.dce.top_retain = retained;
     Ok(config)
 }
 

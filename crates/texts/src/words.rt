@@ -1,6 +1,6 @@
 //! The words behind an order's name.
 use anyhow::{Context, bail};
-use std::alloc::Global;
+use std::alloc::{AllocError, Global};
 use swc_optimization::Config;
 
 /// What stands for a space inside a word.
@@ -31,41 +31,51 @@ impl Words {
             counts_rounds: false,
             given: Vec::new(alloc),
         };
+        found.read(alloc, line)?;
+        Ok(found)
+    }
+
+    fn read(&mut self, alloc: Global, line: &str) -> anyhow::Result<()> {
         let mut words = line.split_whitespace();
         while let Some(word) = words.next() {
             match word {
-                "modules" => found.is_for_modules = true,
-                "keep-top" => found.config.dce.top_level = false,
-                "drop-imports" => found.config.dce.preserve_imports_with_side_effects = false,
+                "modules" => self.is_for_modules = true,
+                "keep-top" => self.config.dce.top_level = false,
+                "drop-imports" => self.config.dce.preserve_imports_with_side_effects = false,
                 "retain" => {
                     let name = words.next().context("a name")?;
                     let name = String::from_str(alloc, name)?;
-                    found.config.dce.top_retain.push(name)?;
+                    self.config.dce.top_retain.push(name)?;
                 }
                 "rounds" => {
-                    found.config.max_rounds = words.next().context("a number")?.parse()?;
-                    found.counts_rounds = true;
+                    self.config.max_rounds = words.next().context("a number")?.parse()?;
+                    self.counts_rounds = true;
                 }
-                word if word.contains('=') => found.given.push(word_of(alloc, word)?)?,
+                word if word.contains('=') => push_word(alloc, &mut self.given, word)?,
                 _ => bail!("{word} is no word of an order"),
             }
         }
-        Ok(found)
+        Ok(())
     }
 }
 
+/// Puts what a word stands for behind others.
+pub fn push_word(alloc: Global, words: &mut Vec<String>, word: &str) -> anyhow::Result<()> {
+    words.push(word_of(alloc, word)?)?;
+    Ok(())
+}
+
 /// What a word stands for, in which spaces and ends of lines are written as other signs. Two quotes are the empty word.
-pub fn word_of(alloc: Global, word: &str) -> anyhow::Result<String> {
+fn word_of(alloc: Global, word: &str) -> Result<String, AllocError> {
     let mut text = String::new(alloc);
-    if word == "\"\"" {
-        return Ok(text);
-    }
-    for c in word.chars() {
-        text.push(match c {
-            SPACE => ' ',
-            LINE_END => '\n',
-            c => c,
-        })?;
+    if word != "\"\"" {
+        for c in word.chars() {
+            text.push(match c {
+                SPACE => ' ',
+                LINE_END => '\n',
+                c => c,
+            })?;
+        }
     }
     Ok(text)
 }
