@@ -125,9 +125,14 @@ impl Order {
             counts_rounds: self.counts_rounds,
         };
         match &mut self.task {
-            Task::Run(pass) if both => of_both(alloc, told, pass, asked),
-            Task::Run(pass) => of_module(alloc, told, pass, asked),
-            Task::Put(globals) => of_both(alloc, told, &mut globals.pass(mark), asked),
+            Task::Run(pass) => {
+                if both {
+                    of_both(alloc, told, pass, asked)
+                } else {
+                    of_module(alloc, told, pass, asked)
+                }
+            }
+            Task::Put(globals) => put(alloc, told, globals, asked),
             Task::Refuse(refusal) => push_refusal(told, "error: ", refusal),
             Task::Shake(command) => command.run(alloc, told, text),
             Task::Peel(pass, most) => peeled(alloc, told, pass, *most, text, mark),
@@ -139,6 +144,17 @@ impl Order {
             Task::Know(what) => known(alloc, told, *what, text, mark),
         }
     }
+}
+
+/// Tells of a text in which what is given is put.
+fn put(
+    alloc: Global,
+    told: &mut String,
+    globals: &Globals,
+    asked: Asked<'_>,
+) -> anyhow::Result<()> {
+    let mut pass = globals.pass(asked.mark);
+    of_both(alloc, told, &mut pass, asked)
 }
 
 /// Tells whether a text is an expression.
