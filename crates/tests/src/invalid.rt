@@ -1,5 +1,6 @@
 //! Trees that aren't valid, and trees that aren't resolved.
 use crate::passes::each_runs;
+use crate::texts::{read, read_as_script};
 use std::alloc::{AllocError, Global};
 use std::process::Abort;
 use swc_ast::VarDeclKind::{Const, Let};
@@ -8,7 +9,7 @@ use swc_ast::{
 };
 use swc_debug::is_valid;
 use swc_resolved::is_core_and_resolved;
-use swc_text::{PrintError, print, read_module, read_script};
+use swc_text::{PrintError, print};
 use test_trees::Place::{Here, InBlock};
 use test_trees::{
     break_to, continue_to, declare, function, ident, labeled, loop_on, name, nothing, number,
@@ -131,9 +132,8 @@ const BINDS: &str =
 #[test]
 fn trees_of_another_mark_come_back(rt: HostRuntime) {
     let alloc = rt.alloc();
-    let first = Mark::new(1).expect(&rt, "1 is a mark");
-    let module = read_module(alloc, BINDS, first).expect(&rt, "a module");
-    let script = read_script(alloc, BINDS, first).expect(&rt, "a script");
+    let module = read(&rt, alloc, BINDS);
+    let script = read_as_script(&rt, alloc, BINDS);
     for number in [2, 3] {
         comes_back(&rt, alloc, number, &module, &script);
     }

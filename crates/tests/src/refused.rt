@@ -1,5 +1,6 @@
 //! Memory that is refused once, at whichever request: `rt try --test --fail-alloc N` refuses the N-th. What is refused says so, and
 //! gives the right answer when it is asked again.
+use crate::texts::unresolved;
 use std::alloc::{AllocError, Global};
 use std::collections::BTreeMap;
 use std::process::Abort;
@@ -17,7 +18,7 @@ use test_trees::number;
 
 /// What a text is read as.
 fn read(rt: &impl Abort, alloc: Global, text: &str) -> Module {
-    let mark = Mark::new(1).expect(rt, "1 is a mark");
+    let mark = unresolved(rt);
     match read_module(alloc, text, mark) {
         Ok(module) => module,
         Err(error) => {
@@ -28,7 +29,7 @@ fn read(rt: &impl Abort, alloc: Global, text: &str) -> Module {
 }
 
 fn read_value(rt: &impl Abort, alloc: Global, text: &str) -> Expr {
-    let mark = Mark::new(1).expect(rt, "1 is a mark");
+    let mark = unresolved(rt);
     match read_expr(alloc, text, mark) {
         Ok(e) => e,
         Err(error) => {
@@ -108,7 +109,7 @@ fn passes_are_refused_and_run_again(rt: HostRuntime) {
 #[test]
 fn the_simplifier_is_refused_and_runs_again(rt: HostRuntime) {
     let alloc = rt.alloc();
-    let mark = Mark::new(1).expect(&rt, "1 is a mark");
+    let mark = unresolved(&rt);
     let rows: [Row; 5] = [
         ("f(1 + 2);", "f(3);\n"),
         ("let x; x = 1; f();", "f();\n"),
@@ -129,7 +130,7 @@ fn the_simplifier_is_refused_and_runs_again(rt: HostRuntime) {
 #[test]
 fn no_round_is_told_of_a_refused_run(rt: HostRuntime) {
     let alloc = rt.alloc();
-    let mark = Mark::new(1).expect(&rt, "1 is a mark");
+    let mark = unresolved(&rt);
     let mut pass = simplifier(mark, Config::new(alloc));
     let module = read(&rt, alloc, "let x; x = 1; f();");
     if pass.run(alloc, &module).is_err() {
@@ -179,7 +180,7 @@ fn put(rt: &impl Abort, alloc: Global, pass: &mut InlineGlobals<'_>, module: &Mo
 #[test]
 fn members_are_refused_and_put_then(rt: HostRuntime) {
     let alloc = rt.alloc();
-    let mark = Mark::new(1).expect(&rt, "1 is a mark");
+    let mark = unresolved(&rt);
     let envs = match environment(alloc) {
         Ok(envs) => envs,
         Err(error) => {
@@ -246,7 +247,7 @@ fn tries_imports(
 #[test]
 fn given_imports_are_refused_and_put_then(rt: HostRuntime) {
     let alloc = rt.alloc();
-    let mark = Mark::new(1).expect(&rt, "1 is a mark");
+    let mark = unresolved(&rt);
     let mut pass = match given(alloc, mark) {
         Ok(pass) => pass,
         Err(error) => {
