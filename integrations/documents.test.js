@@ -55,7 +55,7 @@ test('each constructor of RULES is in the table of texts and edits, and each hea
     for (const { constructors } of rulesOf(document)) {
         for (const name of constructors) assert.ok(table.includes(`\`${name}\``), name);
     }
-    const headings = new Set(read('crates', 'texts', 'stdin').split('\n').filter((line) => line.startsWith('# ')));
+    const headings = new Set(read('crates', 'tests', 'stdin').split('\n').filter((line) => line.startsWith('# ')));
     for (const [, double, single] of table.matchAll(/``(# .*?) ?``(?!`)|`(# [^`]*)`/g)) {
         assert.ok(headings.has(double ?? single), double ?? single);
     }

@@ -1,26 +1,46 @@
-//! Tells what becomes of texts, and what the program `shake` makes of them. Each line of standard input is a comment, an order or
-//! a text, and is written again; below a text stands what is told of it.
+//! All tests: a program that tells what becomes of texts, and tests of what no text can say: public calls that no text reaches, trees
+//! that no text has or that aren't valid, streams that fail, memory that is refused, and texts that are long, wide and deep. Each
+//! line of the program's input is a comment, an order or a text, and is written again; below a text stands what is told of it.
 #![tactic(auto)]
 
-mod command;
-mod compared;
-mod globals;
-mod imports;
-mod known;
-mod names;
-mod order;
+#[cfg(test)]
+mod calls;
+#[cfg(test)]
+mod carried;
+#[cfg(test)]
+mod chains;
+#[cfg(test)]
+mod invalid;
+#[cfg(test)]
+mod layers;
+#[cfg(test)]
 mod passes;
-mod peel;
+#[cfg(test)]
+mod paths;
+#[cfg(test)]
+mod propagated;
+#[cfg(test)]
+mod reading;
+#[cfg(test)]
+mod refused;
+#[cfg(test)]
 mod rounds;
-mod whole;
-mod words;
+#[cfg(test)]
+mod runs;
+#[cfg(test)]
+mod small;
+#[cfg(test)]
+mod texts;
+#[cfg(test)]
+mod trees;
+#[cfg(test)]
+mod walk;
 
 use anyhow::Context;
-use order::Order;
 use std::alloc::{AllocError, Global};
 use std::io;
 use swc_ast::Mark;
-use words::LINE_END;
+use test_orders::{LINE_END, Order};
 
 fn main(rt: HostRuntime) -> anyhow::Result<()> {
     let input = io::read_to_string(rt.alloc(), rt.stdin())?;

@@ -7,28 +7,10 @@ use swc_const_modules::ConstModules;
 use swc_const_propagation::{ConstPropagation, constant_propagation};
 use swc_dce::{TreeShaker, dce};
 use swc_expr::{SimplifyExpr, expr_simplifier};
-use swc_inline_globals::InlineGlobals;
 use swc_inlining::{Inlining, inlining};
 use swc_optimization::{Config, Simplifier, simplifier};
 use swc_pass::{Pass, Repeated};
-
-/// What texts are given to.
-pub trait TextPass {
-    /// What becomes of a module.
-    fn run(&mut self, alloc: Global, module: &Module) -> Result<Module, PassError>;
-
-    /// What becomes of a script.
-    fn run_script(&mut self, alloc: Global, script: &Script) -> Result<Script, PassError>;
-
-    /// Whether the last run changed something.
-    fn changed(&self) -> bool;
-
-    /// How many rounds the last run had, and whether the last one of them changed nothing, if it has rounds.
-    fn rounds(&self) -> Option<(usize, bool)>;
-
-    /// Whether it does nothing, so that texts are only read and printed.
-    fn is_printer(&self) -> bool;
-}
+use test_answers::TextPass;
 
 /// A pass, or nothing but the printer.
 #[derive(Drop)]
@@ -108,27 +90,5 @@ impl TextPass for AnyPass {
 
     fn is_printer(&self) -> bool {
         matches!(self, AnyPass::Print)
-    }
-}
-
-impl TextPass for InlineGlobals<'_> {
-    fn run(&mut self, alloc: Global, module: &Module) -> Result<Module, PassError> {
-        InlineGlobals::run(self, alloc, module)
-    }
-
-    fn run_script(&mut self, alloc: Global, script: &Script) -> Result<Script, PassError> {
-        InlineGlobals::run_script(self, alloc, script)
-    }
-
-    fn changed(&self) -> bool {
-        Repeated::changed(self)
-    }
-
-    fn rounds(&self) -> Option<(usize, bool)> {
-        None
-    }
-
-    fn is_printer(&self) -> bool {
-        false
     }
 }

@@ -1,14 +1,10 @@
 //! What is done with texts.
 use crate::command::CommandLine;
-use crate::compared::compared;
 use crate::globals::Globals;
 use crate::imports::exports;
-use crate::known::{Question, known};
-use crate::names::{named, weighed};
 use crate::passes::AnyPass;
 use crate::peel::peeled;
 use crate::rounds::rounds;
-use crate::whole::{Asked, of_both, of_module, push_refusal};
 use crate::words::Words;
 use anyhow::bail;
 use std::alloc::Global;
@@ -17,6 +13,9 @@ use swc_const_modules::const_modules;
 use swc_dce::{TreeShaker, dce};
 use swc_optimization::Config;
 use swc_text::read_expr;
+use test_answers::{
+    Asked, Question, TextPass, compared, known, named, of_both, of_module, push_refusal, weighed,
+};
 
 /// What is done with a text.
 #[derive(Drop)]
