@@ -1,6 +1,8 @@
-//! What is promised of uses of names, for edits that must fail: each function here makes the uses of a tree and asks them, under
-//! what follows from both contracts, or asks them by the method that it is named after, under its contract.
+//! What is promised of uses of names, and of what goes by them, for edits that must fail: each function here makes the uses of a tree
+//! and asks them, under what follows from both contracts, or calls the method that it is named after, under its contract.
 #![tactic(auto)]
+
+mod shakes;
 
 ghost use Rattle.std.specs.Prelude.{◌≡◌, List, [], IfOk, IfErr, OnOk, IsTrue};
 ghost use Rattle.swc_ast.specs.Modules.{item_tree, module_tree, script_tree};
@@ -16,6 +18,7 @@ ghost use Rattle.swc_names.specs.Ids.{ids};
 ghost use Rattle.dce_uses.specs.Tables as tables;
 
 use dce_uses::{Said, Speaks, Uses};
+pub use shakes::{drop_items, drop_specifiers, give_object, open_expr, open_stmt};
 use std::alloc::{AllocError, Global};
 use stmt_like::StmtLike;
 use swc_ast::{Id, Ident, Module, PassError, Script};

@@ -1,0 +1,11 @@
+//! What is promised of what the remover of dead branches makes of nodes, for edits that must fail: each function here calls the one
+//! that it is named after, under the same contract.
+#![tactic(auto)]
+
+mod loops;
+mod statements;
+mod switches;
+
+pub use loops::{fold_do, fold_for, fold_while, run_within};
+pub use statements::{fold_block, fold_expression, fold_if, fold_label, fold_try};
+pub use switches::{fold_arms, shed_switch};
