@@ -2,10 +2,10 @@
 //! that it is named after, under the same contract.
 #![tactic(auto)]
 
+mod choices;
 mod loops;
 mod statements;
-mod switches;
 
+pub use choices::{fold_arms, shed_switch};
 pub use loops::{fold_do, fold_for, fold_while, run_within};
 pub use statements::{fold_block, fold_expression, fold_if, fold_label, fold_try};
-pub use switches::{fold_arms, shed_switch};
