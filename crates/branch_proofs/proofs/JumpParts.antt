@@ -1,14 +1,14 @@
 -- Runs that end by no jump of a kind, and what is made of them.
-use Rattle.std.proofs.Common.{◌≡◌, ℕ, zero, suc, Bool, true, false, not, ◌&&◌, ◌||◌, if◌then◌else◌, List, [], ◌∷◌, ◌++◌, Option, Some, None, refl, sym, subst, bytes_eq, codes}
+use Rattle.std.proofs.Common.{◌≡◌, ℕ, zero, suc, Bool, true, false, not, ◌&&◌, ◌||◌, if◌then◌else◌, List, [], ◌∷◌, ◌++◌, Option, Some, None, refl, sym, subst, length, slice_get, bytes_eq, codes}
 use Rattle.swc_ast.specs.declared.UpdateOp.{UpdateOp}
 use Rattle.swc_ast.specs.declared.BinaryOp.{BinaryOp}
 use Rattle.swc_ast.specs.declared.VarDeclKind.{VarDeclKind}
 use Rattle.swc_ast.specs.declared.VarDeclKind.TheVariants.{Var, Let, Const}
 use Rattle.swc_ast.specs.Tree.{Text, Name, ItemKind, Plain, Spread, Hole, Tree, Forest}
-use Rattle.swc_ast.specs.Value.{Env, Value, Undefined, ScriptThis, Function, Token, Items, Record, Values, ∅, ◌▹◌, Fields, NaN, Event, Reads, Reply, Gives, Throws, Cell, State, Broken, Continued, Returned, Thrown, Outcome, Done, Jumps, Outside, Cut, Run, and_then, Context, Meaning, is_data, all_data}
-use Rattle.swc_ast.specs.Operators.{truthy, is_nullish, to_text, to_number, strict_equal, prim}
+use Rattle.swc_ast.specs.Value.{Env, Value, Undefined, Null, NaN, TypeError, ScriptThis, Truth, Num, Text as TextValue, Items, Record, Function, Token, Own, Values, ∅, ◌▹◌, Fields, nofield, field, Event, Reads, Returns, Fails, Reply, Gives, Throws, Back, Natives, Cell, State, Broken, Continued, Returned, Thrown, Outcome, Done, Jumps, Outside, Cut, Run, and_then, Context, Meaning, is_data, all_data}
+use Rattle.swc_ast.specs.Operators.{truthy, is_nullish, to_text, to_number, strict_equal, prim, own_property}
 use Rattle.swc_ast.specs.Scope.{Declared, case_statements}
-use Rattle.swc_ast.specs.Meaning.{◌>>=◌, gives, leaves, in_core, take_reply, ask, checked_type, is_type_name, is_unresolved, read, read_host, read_bound, held_value, cell_at, write, write_host, write_bound, write_cell, is_initialised, initialise, initialise_bound, initialise_cell, Scope, numbered, in_scope, token_text, get, put, make_value, read_this, get_at, put_at, shape0, shape1, shape2, shape3, shape1+, shape2+, all_values, in_turn, run_all, spread_items, item_values, array_items, merged, object_fields, one_field, short_circuits, shortened, operate, assign, update, in_list_scope, plain, has_label, after_jump, turn, turns, do_turns, copies, at_label, at_break, Case, cases_of, bodies_from, default_bodies, chosen, selected, switch, is_param, handled, resume, finally, try_catch, declare, copied_names, for_loop, shape_if, shape_return, template_text, type_of_name}
+use Rattle.swc_ast.specs.Meaning.{◌>>=◌, gives, leaves, in_core, take_reply, ask, tell, hand, hand_all, hand_fields, checked_type, is_type_name, is_unresolved, read, read_host, read_bound, held_value, cell_at, write, write_host, write_bound, write_cell, is_initialised, initialise, initialise_bound, initialise_cell, Scope, numbered, in_scope, token_text, inherits, datum, read_member, get, put, Caller, call_some, call_handed, told, call_back, reply_to_call, replies_to_call, ask_call, call_value, make_value, read_this, get_at, put_at, shape0, shape1, shape2, shape3, shape1+, shape2+, all_values, in_turn, run_all, spread_items, item_values, array_items, merged, object_fields, one_field, short_circuits, shortened, operate, assign, update, in_list_scope, plain, has_label, after_jump, turn, turns, do_turns, copies, at_label, at_break, Case, cases_of, bodies_from, default_bodies, chosen, selected, switch, is_param, handled, resume, finally, try_catch, declare, copied_names, for_loop, shape_if, shape_return, template_text, type_of_name}
 use Rattle.pass_proofs.proofs.Runs.{bind_chain}
 use Rattle.branch_rules.specs.Jumps.{is_sought, Kinds, in_loop, in_switch}
 use Rattle.branch_proofs.proofs.Leaving.{Stays, Keeps}
@@ -69,10 +69,41 @@ module _ (g : Kinds) where
   reply_stays [] s = tt
   reply_stays (Gives v ∷ rs) s = stays_if (is_data v) _ _ tt tt
   reply_stays (Throws v ∷ rs) s = stays_if (is_data v) _ _ refl tt
+  reply_stays (Back k this args ∷ rs) s = tt
 
   pub ask_keeps : (e : Event) → Keeps g (ask e)
   unfolding ask
   ask_keeps e = record { by = λ s. reply_stays s.replies _ }
+
+  tell_keeps : (e : Event) → Keeps g (tell e)
+  unfolding tell
+  tell_keeps e = record { by = λ s. tt }
+
+  mutual
+    unfolding hand hand_all hand_fields
+
+    pub hand_keeps : (v : Value) → Keeps g (hand v)
+    hand_keeps Undefined = keeps_gives Undefined
+    hand_keeps Null = keeps_gives Null
+    hand_keeps NaN = keeps_gives NaN
+    hand_keeps TypeError = keeps_gives TypeError
+    hand_keeps ScriptThis = keeps_leaves
+    hand_keeps (Truth b) = keeps_gives (Truth b)
+    hand_keeps (Num z) = keeps_gives (Num z)
+    hand_keeps (TextValue t) = keeps_gives (TextValue t)
+    hand_keeps (Items vs) = keeps_then (hand_all_keeps vs) (λ ws. keeps_gives (Items ws))
+    hand_keeps (Record fs) = keeps_then (hand_fields_keeps fs) (λ gs. keeps_gives (Record gs))
+    hand_keeps (Function f e t) = record { by = λ s. tt }
+    hand_keeps (Token n b) = keeps_gives (Token n b)
+    hand_keeps (Own k) = keeps_gives (Own k)
+
+    pub hand_all_keeps : (vs : Values) → Keeps g (hand_all vs)
+    hand_all_keeps ∅ = keeps_gives ∅
+    hand_all_keeps (v ▹ vs) = keeps_then (hand_keeps v) (λ w. keeps_then (hand_all_keeps vs) (λ ws. keeps_gives (w ▹ ws)))
+
+    hand_fields_keeps : (fs : Fields) → Keeps g (hand_fields fs)
+    hand_fields_keeps nofield = keeps_gives nofield
+    hand_fields_keeps (field k v fs) = keeps_then (hand_keeps v) (λ w. keeps_then (hand_fields_keeps fs) (λ gs. keeps_gives (field k w gs)))
 
   -- names
 
@@ -100,7 +131,7 @@ module _ (g : Kinds) where
   write_bound_keeps x v (Some k) = record { by = λ s. (cell_keeps x k v (cell_at s x k)).by s }
 
   pub write_host_keeps : (x : List ℕ) (v : Value) → Keeps g (write_host x v)
-  write_host_keeps x v = keeps_if _ keeps_leaves (keeps_if (is_data v) (keeps_then (ask_keeps _) (λ r. keeps_gives v)) keeps_leaves)
+  write_host_keeps x v = keeps_if _ keeps_leaves (keeps_then (hand_keeps v) (λ w. keeps_then (ask_keeps _) (λ r. keeps_gives v)))
 
   pub write_keeps : (mark : ℕ) (x : Name) (v : Value) (c : Context) → Keeps g (write mark x v c)
   unfolding write
@@ -124,13 +155,17 @@ module _ (g : Kinds) where
 
   -- members
 
+  member_keeps : (o : Option Natives) (v : Value) (k : List ℕ) → Keeps g (read_member o v k)
+  member_keeps None v k = keeps_core (own_property v k)
+  member_keeps (Some n) v k = record { by = λ s. (keeps_core (datum (s.natives n k))).by s }
+
   pub get_keeps : (v : Value) (k : List ℕ) → Keeps g (get v k)
   unfolding get
-  get_keeps v k = keeps_if (token_text v) (ask_keeps _) (keeps_if (is_nullish v) (keeps_thrown _) (keeps_core _))
+  get_keeps v k = keeps_if (token_text v) (ask_keeps _) (keeps_if (is_nullish v) (keeps_thrown _) (member_keeps (inherits v k) v k))
 
   pub put_keeps : (o : Value) (k : List ℕ) (v : Value) → Keeps g (put o k v)
   unfolding put
-  put_keeps o k v = keeps_if (token_text o) (keeps_if (is_data v) (keeps_then (ask_keeps _) (λ r. keeps_gives v)) keeps_leaves) (keeps_if (is_nullish o) (keeps_thrown _) keeps_leaves)
+  put_keeps o k v = keeps_if (token_text o) (keeps_then (hand_keeps v) (λ w. keeps_then (ask_keeps _) (λ r. keeps_gives v))) (keeps_if (is_nullish o) (keeps_thrown _) keeps_leaves)
 
   pub get_at_keeps : (o k : Value) → Keeps g (get_at o k)
   unfolding get_at
@@ -140,11 +175,57 @@ module _ (g : Kinds) where
   unfolding put_at
   put_at_keeps o k v = keeps_if (is_nullish o) (keeps_thrown _) (keeps_then (keeps_core (to_text k)) (λ t. put_keeps o t v))
 
-  pub make_keeps : (v : Value) (args : Values) → Keeps g (make_value v args)
-  unfolding make_value
-  make_keeps (Token n b) args = keeps_if (all_data args) (ask_keeps _) keeps_leaves
-  make_keeps (Function f e t) args = keeps_leaves
-  make_keeps _ args = keeps_thrown _
+  -- calls of what ends by no such jump
+
+  module _ (call : Caller) (kept : (f this : Value) (args : Values) → Keeps g (call f this args)) where
+    some_call_keeps : (o : Option Value) (this : Value) (args : Values) → Keeps g (call_some call o this args)
+    some_call_keeps None this args = keeps_leaves
+    some_call_keeps (Some f) this args = kept f this args
+
+    handed_keeps : (k : ℕ) (this : Value) (args : Values) → Keeps g (call_handed call k this args)
+    unfolding call_handed
+    handed_keeps k this args = record { by = λ s. (some_call_keeps (slice_get s.handed k) this args).by s }
+
+    told_stays : (o : Outcome Value) → Stays g (told o)
+    told_stays (Done v s) = (keeps_then (hand_keeps v) (λ w. tell_keeps (Returns w))).by s
+    told_stays (Jumps (Thrown v) s) = (keeps_then (hand_keeps v) (λ w. tell_keeps (Fails w))).by s
+    told_stays (Jumps (Broken l) s) = tt
+    told_stays (Jumps (Continued l) s) = tt
+    told_stays (Jumps (Returned v) s) = tt
+    told_stays Outside = tt
+    told_stays Cut = tt
+
+    back_keeps : (k : ℕ) (this : Value) (args : Values) → Keeps g (call_back call k this args)
+    back_keeps k this args = keeps_if (is_data this && all_data args) (record { by = λ s. told_stays (call_handed call k this args s) }) keeps_leaves
+
+    answer_keeps : {next : Run Value} → Keeps g next → (rs : List Reply) → Keeps g (reply_to_call call next rs)
+    answer_keeps h [] = record { by = λ s. reply_stays [] s }
+    answer_keeps h (Gives v ∷ rs) = record { by = λ s. reply_stays (Gives v ∷ rs) s }
+    answer_keeps h (Throws v ∷ rs) = record { by = λ s. reply_stays (Throws v ∷ rs) s }
+    answer_keeps h (Back k this args ∷ rs) = record { by = λ s. stays_then _ _ ((back_keeps k this args).by _) (λ v. h) }
+
+    answers_keep : (n : ℕ) → Keeps g (replies_to_call call n)
+    unfolding replies_to_call
+    answers_keep zero = keeps_cut
+    answers_keep (suc n) = record { by = λ s. (answer_keeps (answers_keep n) s.replies).by s }
+
+    ask_call_keeps : (e : Event) → Keeps g (ask_call call e)
+    unfolding ask_call
+    ask_call_keeps e = record { by = λ s. (answers_keep (length s.replies)).by _ }
+
+    pub call_keeps : (f this : Value) (args : Values) → Keeps g (call_value call f this args)
+    unfolding call_value
+    call_keeps (Function f e t) this args = kept (Function f e t) this args
+    call_keeps (Token k b) this args = keeps_then (hand_keeps this) (λ t. keeps_then (hand_all_keeps args) (λ vs. ask_call_keeps _))
+    call_keeps (Own k) this args = handed_keeps k this args
+    call_keeps _ this args = keeps_thrown _
+
+    pub make_keeps : (v : Value) (args : Values) → Keeps g (make_value call v args)
+    unfolding make_value
+    make_keeps (Token n b) args = keeps_then (hand_all_keeps args) (λ vs. ask_call_keeps _)
+    make_keeps (Function f e t) args = keeps_leaves
+    make_keeps (Own k) args = keeps_leaves
+    make_keeps _ args = keeps_thrown _
 
   pub this_keeps : (v : Value) → Keeps g (read_this v)
   this_keeps ScriptThis = keeps_leaves

@@ -1,17 +1,17 @@
 -- A tree from which no such jump escapes ends by none.
-use Rattle.std.proofs.Common.{◌≡◌, ℕ, zero, suc, Bool, true, false, ◌&&◌, List, ◌∷◌, Some, None, refl}
+use Rattle.std.proofs.Common.{◌≡◌, ℕ, zero, suc, Bool, true, false, List, ◌∷◌, Some, None, refl}
 use Rattle.std.proofs.lemmas.Bool.{false≢true}
 use Rattle.swc_ast.specs.declared.Span.{Span}
 use Rattle.swc_ast.specs.declared.UnaryOp.TheVariants.{Delete}
 use Rattle.swc_ast.specs.Tree.{Text, Label, NumLit, StrLit, BoolLit, NullLit, This, Read, Template, Array, Object, SpreadRecord, KeyValue, Shorthand, Method, PlainKey, ComputedKey, Fn, Arrow, Body, Unary, TypeOfName, Binary, Cond, Seq, Dot, Index, Call, New, CallEval, CallDot, CallIndex, Assign, AssignDot, AssignIndex, Update, UpdateDot, UpdateIndex, Block, Empty, Throw, ExprStmt, Return, If, While, DoWhile, For, Absent, Labeled, Break, Continue, Switch, CaseBody, Try, VarDecl, Declarator, FnDecl, ExportDecl, Import, ExportNamed, ExportDefaultFn, ExportDefaultExpr, Tree, node, Forest, ε, ◌⊳◌}
-use Rattle.swc_ast.specs.Value.{Value, Undefined, Function, Token, Values, nofield, Broken, Continued, Returned, Thrown, Outcome, Done, Jumps, Outside, Cut, Context, Meaning, is_data, all_data}
+use Rattle.swc_ast.specs.Value.{Value, Undefined, Values, nofield, Broken, Continued, Returned, Thrown, Outcome, Done, Jumps, Outside, Cut, Context, Meaning}
 use Rattle.swc_ast.specs.Operators.{truthy, to_text}
-use Rattle.swc_ast.specs.Meaning.{gives, is_unresolved, read, get, Caller, call_value, get_at, run_all, operator_of, first_tree, act, eval, evals}
+use Rattle.swc_ast.specs.Meaning.{gives, is_unresolved, read, get, Caller, get_at, run_all, operator_of, first_tree, act, eval, evals}
 use Rattle.swc_ast.specs.Call.{Evaluator, at_call, call_at}
 use Rattle.branch_rules.specs.Jumps.{Kinds, in_loop, in_switch, escapes_behind, escapes, some_escape}
 use Rattle.branch_proofs.proofs.Leaving.{Stays, Keeps}
 use Rattle.branch_proofs.proofs.Relabelled.{gives_follow, Covered, covered_itself, covered_label}
-use Rattle.branch_proofs.proofs.JumpParts.{or_left, or_right, keeps_then, keeps_gives, keeps_leaves, keeps_thrown, keeps_core, keeps_if, ask_keeps, read_keeps, write_keeps, initialise_keeps, get_keeps, put_keeps, get_at_keeps, put_at_keeps, make_keeps, this_keeps, zero_keeps, one_keeps, two_keep, three_keep, some_keep, more_keep, values_keep, turn_keeps, all_keep, items_keep, fields_keep, field_keeps, template_keeps, operate_keeps, assign_keeps, update_keeps, type_keeps, at_label_stays, try_keeps, declare_keeps, if_keeps, return_keeps, list_scope_keeps, turns_keep, do_turns_keep, for_keeps, switch_keeps, Each}
+use Rattle.branch_proofs.proofs.JumpParts.{or_left, or_right, keeps_then, keeps_gives, keeps_leaves, keeps_thrown, keeps_core, keeps_if, read_keeps, write_keeps, initialise_keeps, get_keeps, put_keeps, get_at_keeps, put_at_keeps, call_keeps, make_keeps, this_keeps, zero_keeps, one_keeps, two_keep, three_keep, some_keep, more_keep, values_keep, turn_keeps, all_keep, items_keep, fields_keep, field_keeps, template_keeps, operate_keeps, assign_keeps, update_keeps, type_keeps, at_label_stays, try_keeps, declare_keeps, if_keeps, return_keeps, list_scope_keeps, turns_keep, do_turns_keep, for_keeps, switch_keeps, Each}
 
 -- a call ends by no such jump
 
@@ -45,12 +45,6 @@ passes Method = false
 passes _ = true
 
 module _ (mark n : ℕ) (call : Caller) (kept : (g : Kinds) (f this : Value) (args : Values) → Keeps g (call f this args)) where
-  call_keeps : (g : Kinds) (f this : Value) (args : Values) → Keeps g (call_value call f this args)
-  unfolding call_value
-  call_keeps g (Function f e t) this args = kept g (Function f e t) this args
-  call_keeps g (Token k b) this args = keeps_if g (is_data this && all_data args) (ask_keeps g _) (keeps_leaves g)
-  call_keeps g _ this args = keeps_thrown g _
-
   act_keeps : (l : Label) (ss : List Span) (cs : Forest) (g : Kinds) (ms : List Meaning) → Each g ms → passes l ≡ true → (c : Context) → Keeps g (act mark n call l ss cs ms c)
   unfolding act
   act_keeps (NumLit z) ss cs g ms hs e c = zero_keeps g ms (λ d. keeps_gives g _) c
@@ -76,11 +70,11 @@ module _ (mark n : ℕ) (call : Caller) (kept : (g : Kinds) (f this : Value) (ar
   act_keeps Seq ss cs g ms hs e c = turn_keeps g ms hs c
   act_keeps (Dot k) ss cs g ms hs e c = one_keeps g ms hs (λ o ho d. keeps_then g (ho d) (λ v. get_keeps g v k)) c
   act_keeps Index ss cs g ms hs e c = two_keep g ms hs (λ o k ho hk d. keeps_then g (ho d) (λ v. keeps_then g (hk d) (λ w. get_at_keeps g v w))) c
-  act_keeps Call ss cs g ms hs e c = some_keep g ms hs (λ f ks hf hks d. keeps_then g (hf d) (λ v. keeps_then g (values_keep g ks hks d) (λ vs. call_keeps g v Undefined vs))) c
-  act_keeps (CallEval x) ss cs g ms hs e c = keeps_if g (is_unresolved mark x) (keeps_leaves g) (keeps_then g (read_keeps g mark x c) (λ v. keeps_then g (values_keep g ms hs c) (λ vs. call_keeps g v Undefined vs)))
-  act_keeps New ss cs g ms hs e c = some_keep g ms hs (λ f ks hf hks d. keeps_then g (hf d) (λ v. keeps_then g (values_keep g ks hks d) (λ vs. make_keeps g v vs))) c
-  act_keeps (CallDot k) ss cs g ms hs e c = some_keep g ms hs (λ o ks ho hks d. keeps_then g (ho d) (λ v. keeps_then g (get_keeps g v k) (λ f. keeps_then g (values_keep g ks hks d) (λ vs. call_keeps g f v vs)))) c
-  act_keeps CallIndex ss cs g ms hs e c = more_keep g ms hs (λ o k ks ho hk hks d. keeps_then g (ho d) (λ v. keeps_then g (hk d) (λ w. keeps_then g (get_at_keeps g v w) (λ f. keeps_then g (values_keep g ks hks d) (λ vs. call_keeps g f v vs))))) c
+  act_keeps Call ss cs g ms hs e c = some_keep g ms hs (λ f ks hf hks d. keeps_then g (hf d) (λ v. keeps_then g (values_keep g ks hks d) (λ vs. call_keeps g call (kept g) v Undefined vs))) c
+  act_keeps (CallEval x) ss cs g ms hs e c = keeps_if g (is_unresolved mark x) (keeps_leaves g) (keeps_then g (read_keeps g mark x c) (λ v. keeps_then g (values_keep g ms hs c) (λ vs. call_keeps g call (kept g) v Undefined vs)))
+  act_keeps New ss cs g ms hs e c = some_keep g ms hs (λ f ks hf hks d. keeps_then g (hf d) (λ v. keeps_then g (values_keep g ks hks d) (λ vs. make_keeps g call (kept g) v vs))) c
+  act_keeps (CallDot k) ss cs g ms hs e c = some_keep g ms hs (λ o ks ho hks d. keeps_then g (ho d) (λ v. keeps_then g (get_keeps g v k) (λ f. keeps_then g (values_keep g ks hks d) (λ vs. call_keeps g call (kept g) f v vs)))) c
+  act_keeps CallIndex ss cs g ms hs e c = more_keep g ms hs (λ o k ks ho hk hks d. keeps_then g (ho d) (λ v. keeps_then g (hk d) (λ w. keeps_then g (get_at_keeps g v w) (λ f. keeps_then g (values_keep g ks hks d) (λ vs. call_keeps g call (kept g) f v vs))))) c
   act_keeps (Assign op x) ss cs g ms hs e c = one_keeps g ms hs (λ m hm d. assign_keeps g (operator_of op) (read mark x d) (m d) _ (read_keeps g mark x d) (hm d) (λ v. write_keeps g mark x v d)) c
   act_keeps (AssignDot op k) ss cs g ms hs e c = two_keep g ms hs (λ o m ho hm d. keeps_then g (ho d) (λ v. assign_keeps g (operator_of op) (get v k) (m d) _ (get_keeps g v k) (hm d) (λ w. put_keeps g v k w))) c
   act_keeps (AssignIndex op) ss cs g ms hs e c = three_keep g ms hs (λ o k m ho hk hm d. keeps_then g (ho d) (λ v. keeps_then g (hk d) (λ w. assign_keeps g (operator_of op) (get_at v w) (m d) _ (get_at_keeps g v w) (hm d) (λ x. put_at_keeps g v w x)))) c

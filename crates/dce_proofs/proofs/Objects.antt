@@ -3,7 +3,7 @@ use Rattle.std.proofs.Common.{◌≡◌, ℕ, zero, suc, Bool, true, false, ◌|
 use mathlib.Core.Path.{fun_ext}
 use Rattle.swc_ast.specs.declared.Span.{Span}
 use Rattle.swc_ast.specs.Tree.{Name, Call, Fn, Params, Body, Return, Object, node, Forest, ε, ◌⊳◌}
-use Rattle.swc_ast.specs.Value.{Env, Value, Undefined, Record, Fields, nofield, Cell, State, Reply, Gives, Throws, Returned, Thrown, Outcome, Done, Jumps, Outside, Cut, Run, and_then, Context, is_data}
+use Rattle.swc_ast.specs.Value.{Env, Value, Undefined, Record, Fields, nofield, Cell, State, Reply, Gives, Throws, Back, Returned, Thrown, Outcome, Done, Jumps, Outside, Cut, Run, and_then, Context, is_data}
 use Rattle.swc_ast.specs.Meaning.{gives, jumps, in_core, ask, take_reply, read, read_host, read_bound, held_value, cell_at, Caller, is_unresolved, object_fields, merged, key_name, one_field, eval, evals, act, in_scope, at_return, all_values, call_value}
 use Rattle.swc_ast.specs.Call.{at_call, call_at, invoke, run_function, bind_params}
 use Rattle.meaning_proofs.specs.Exact.{Refined, Exact}
@@ -39,6 +39,7 @@ reply_throws : (rs : List Reply) (s : State) → Throwing (take_reply rs s)
 reply_throws [] s = is_cut
 reply_throws (Gives v ∷ rs) s = throwing_if (is_data v) is_done is_outside
 reply_throws (Throws v ∷ rs) s = throwing_if (is_data v) is_thrown is_outside
+reply_throws (Back k this args ∷ rs) s = is_outside
 
 host_throws : (x : List ℕ) (s : State) → Throwing (read_host x s)
 unfolding ask

@@ -4,8 +4,8 @@ use Rattle.std.proofs.lemmas.Bool.{false≢true, and_parts, not-true}
 use Rattle.std.proofs.lemmas.Option.{none-some, same_Some}
 use Rattle.swc_ast.specs.declared.Span.{Span}
 use Rattle.swc_ast.specs.Tree.{ItemKind, Plain, Spread, Hole, StrLit, Array, Object, KeyValue, PlainKey, Dot, Tree, node, Forest, ε, ◌⊳◌}
-use Rattle.swc_ast.specs.Value.{Value, Num, Text, Items, Record, Values, Fields, nofield, field, Run, and_then, Context}
-use Rattle.swc_ast.specs.Meaning.{◌>>=◌, gives, leaves, in_core, run_all, get, array_items, merged, object_fields, one_field, key_name, act, eval, evals}
+use Rattle.swc_ast.specs.Value.{Value, Undefined, Num, Text, Items, Record, Values, Fields, nofield, field, Texts, Lists, Run, and_then, Context}
+use Rattle.swc_ast.specs.Meaning.{◌>>=◌, gives, leaves, in_core, run_all, changing_keys, by_item, by_index, inherits, read_member, get, array_items, merged, object_fields, one_field, key_name, act, eval, evals}
 use Rattle.swc_ast.specs.Operators.{if_some, index_of, units_of_all, units, unit_text, unit_at, value_at, values_len, field_value, field_or_undefined, put_field, put_fields, own_property}
 use Rattle.swc_ast.specs.Call.{call_at}
 use Rattle.meaning_proofs.specs.Exact.{Refines, Exact}
@@ -64,10 +64,22 @@ text_reads t k u h =
     ∙ ap (λ us. unit_text (slice_get us q.0)) (basic_units (chars t) p.0)
     ∙ ap unit_text r.1 ∙ character_text r.0 u r.2
 
+-- a unit that is there is not inherited
+text_own : (t k u : List ℕ) → text_at t k ≡ Some u → inherits (Text t) k ≡ None
+unfolding units
+text_own t k u h =
+    let p = if_gives (all_basic (chars t)) _ u h in
+    let q = found_some (index_of k) _ u p.1 in
+    let r = found_some (slice_get (chars t) q.0) character u q.2 in
+    ap (λ b. if b then None else by_index Texts [] k (slice_get (units_of_all (chars t))) (index_of k)) (index_no_length k q.0 q.1)
+    ∙ ap (by_index Texts [] k (slice_get (units_of_all (chars t)))) q.1
+    ∙ ap (λ us. by_item Texts (slice_get us q.0)) (basic_units (chars t) p.0)
+    ∙ ap (by_item Texts) r.1
+
 -- the character of a text at an index
 pub text_at_exact : (mark : ℕ) (ss is rs : List Span) (t k u : List ℕ) → text_at t k ≡ Some u → Exact mark (node (Dot k) ss (node (StrLit t) is ε ⊳ ε)) (text_tree rs u)
 unfolding eval act evals get and_then
-text_at_exact mark ss is rs t k u h = record { by = λ n d c. refines_path (ap in_core (text_reads t k u h)) }
+text_at_exact mark ss is rs t k u h = record { by = λ n d c. refines_path (ap (λ o. read_member o (Text t) k) (text_own t k u h) ∙ ap in_core (text_reads t k u h)) }
 
 -- arrays
 
@@ -75,16 +87,30 @@ items_read : (k : List ℕ) (i : ℕ) (vs : Values) → index_of k ≡ Some i �
 unfolding own_property
 items_read k i vs h = ap (λ b. if b then Some (Num (pos (values_len vs))) else if_some (index_of k) (value_at vs)) (index_no_length k i h) ∙ ap (λ o. if_some o (value_at vs)) h
 
-module _ (mark n d : ℕ) where
+-- an item that is there, or what is inherited in its place
+abbrev item_read : List ℕ → Option Value → Run Value
+item_read k None = read_member (Some Lists) Undefined k
+item_read k (Some v) = gives v
+
+items_get : (k : List ℕ) (i : ℕ) (vs : Values) → index_of k ≡ Some i → read_member (inherits (Items vs) k) (Items vs) k ≡ item_read k (value_at vs i)
+items_get k i vs h =
+    ap (λ o. read_member o (Items vs) k) (ap (λ b. if b then None else by_index Lists changing_keys k (value_at vs) (index_of k)) (index_no_length k i h) ∙ ap (by_index Lists changing_keys k (value_at vs)) h)
+    ∙ go (value_at vs i) refl
+  where
+    go : (o : Option Value) → value_at vs i ≡ o → read_member (by_item Lists o) (Items vs) k ≡ item_read k o
+    go None e = refl
+    go (Some v) e = ap in_core (items_read k i vs h ∙ e)
+
+module _ (mark n d : ℕ) (k : List ℕ) where
   -- the items in front run, and then the one that is read
-  item_reads : (w : Tree) (ks : List ItemKind) (us : Forest) (i : ℕ) (t : Tree) (c : Context) → has_spread ks ≡ false → pure_all mark (items_behind ks us i) ≡ true → item_at w ks us i ≡ Some t → Refines (array_items ks (evals mark n (call_at (eval mark n) d) us) c >>= λ vs. in_core (value_at vs i)) (run_all (evals mark n (call_at (eval mark n) d) (items_before ks us i)) c >>= λ v. eval mark n (call_at (eval mark n) d) t c)
+  item_reads : (w : Tree) (ks : List ItemKind) (us : Forest) (i : ℕ) (t : Tree) (c : Context) → has_spread ks ≡ false → pure_all mark (items_behind ks us i) ≡ true → item_at w ks us i ≡ Some t → Refines (array_items ks (evals mark n (call_at (eval mark n) d) us) c >>= λ vs. item_read k (value_at vs i)) (run_all (evals mark n (call_at (eval mark n) d) (items_before ks us i)) c >>= λ v. eval mark n (call_at (eval mark n) d) t c)
   unfolding array_items evals run_all and_then
   item_reads w [] us i t c s p h = absurd (none-some t h)
   item_reads w (Spread ∷ ks) us i t c s p h = absurd (false≢true (sym s))
   item_reads w (Hole ∷ ks) us i t c s p h = refines_leaves
   item_reads w (Plain ∷ ks) ε i t c s p h = refines_leaves
   item_reads w (Plain ∷ ks) (u ⊳ us) zero t c s p h =
-      subst (λ x. Refines (array_items (Plain ∷ ks) (evals mark n (call_at (eval mark n) d) (u ⊳ us)) c >>= λ vs. in_core (value_at vs zero)) (eval mark n (call_at (eval mark n) d) x c)) (same_Some _ _ h)
+      subst (λ x. Refines (array_items (Plain ∷ ks) (evals mark n (call_at (eval mark n) d) (u ⊳ us)) c >>= λ vs. item_read k (value_at vs zero)) (eval mark n (call_at (eval mark n) d) x c)) (same_Some _ _ h)
       (refines_assoc (eval mark n (call_at (eval mark n) d) u c) _ _ (refines_end (any _) (λ v _. refines_assoc (array_items ks (evals mark n (call_at (eval mark n) d) us) c) _ _ (refines_drop (items_still ks _ (stills mark n (call_at (eval mark n) d) (calls_quiet mark n d) us p) c) (λ ws _. refines_same (gives v))))))
   item_reads w (Plain ∷ ks) (u ⊳ us) (suc i) t c s p h =
       refines_assoc (eval mark n (call_at (eval mark n) d) u c) _ _ (refines_chain (eval mark n (call_at (eval mark n) d) u c) (λ v. run_all (evals mark n (call_at (eval mark n) d) (items_before ks us i)) c) (λ v. eval mark n (call_at (eval mark n) d) t c)
@@ -100,8 +126,8 @@ array_at_exact mark w ks us ss is rs k i t e h =
     record {
       by = λ n d c.
           refines_assoc (array_items ks (evals mark n (call_at (eval mark n) d) us) c) (λ vs. gives (Items vs)) (λ v. get v k)
-          (refines_trans (refines_then (refines_same _) (λ vs. refines_path (ap in_core (items_read k i vs e))))
-          (refines_trans (item_reads mark n d w ks us i r.0 c (not-true (has_spread ks) q.0) q.1 r.1)
+          (refines_trans (refines_then (refines_same _) (λ vs. refines_path (items_get k i vs e)))
+          (refines_trans (item_reads mark n d k w ks us i r.0 c (not-true (has_spread ks) q.0) q.1 r.1)
           (refines_trans (refines_then (all_kept mark n d (items_before ks us i) c) (λ v. refines_same _))
           (subst (λ x. Refines (run_all (evals mark n (call_at (eval mark n) d) (effects_all mark (items_before ks us i))) c >>= λ v. eval mark n (call_at (eval mark n) d) r.0 c) (eval mark n (call_at (eval mark n) d) x c)) (same_Some _ _ r.2) (preserve_kept mark n (call_at (eval mark n) d) rs (effects_all mark (items_before ks us i)) r.0 c)))));
     }

@@ -6,7 +6,7 @@ use Rattle.std.proofs.lemmas.Option.{none-some, same_Some}
 use Rattle.swc_ast.specs.declared.UnaryOp.TheVariants.{TypeOf}
 use Rattle.swc_ast.specs.declared.Span.{Span}
 use Rattle.swc_ast.specs.Tree.{Name, NumLit, StrLit, Read, TypeOfName, Dot, Index, Tree, node, Forest, ε, ◌⊳◌}
-use Rattle.swc_ast.specs.Value.{Value, Undefined, Null, NaN, TypeError, ScriptThis, Truth, Num, Text, Items, Record, Function, Token, TypeOf as TypeOfEvent, Run, and_then}
+use Rattle.swc_ast.specs.Value.{Value, Undefined, Null, NaN, TypeError, ScriptThis, Truth, Num, Text, Items, Record, Function, Token, Own, TypeOf as TypeOfEvent, Run, and_then}
 use Rattle.swc_ast.specs.Meaning.{◌>>=◌, in_core, ask, checked_type, is_unresolved, read, type_of_name, get, get_at, act, eval, evals}
 use Rattle.swc_ast.specs.Operators.{unary_value, type_name}
 use Rattle.meaning_proofs.specs.Exact.{Exact}
@@ -51,6 +51,7 @@ by_text (Items vs) k = refl
 by_text (Record fs) k = refl
 by_text (Function f e t) k = refl
 by_text (Token i b) k = refl
+by_text (Own i) k = refl
 
 by_number : (v : Value) (z : ℤ) → get_at v (Num z) ≡ get v (signed_decimal z)
 unfolding get_at get and_then
@@ -66,6 +67,7 @@ by_number (Items vs) z = refl
 by_number (Record fs) z = refl
 by_number (Function f e t) z = refl
 by_number (Token i b) z = refl
+by_number (Own i) z = refl
 
 -- `o[key]` is `o.k` where the key is a literal of text k
 pub member_exact : (mark : ℕ) (ss rs : List Span) (o key : Tree) (k : List ℕ) → key_text_of key ≡ Some k → Exact mark (node Index ss (o ⊳ key ⊳ ε)) (node (Dot k) rs (o ⊳ ε))

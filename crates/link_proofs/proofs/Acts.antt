@@ -274,7 +274,7 @@ module _ {L : Links} {mark : ℕ} (P : Proper L mark) where
     act_safe Index ss cs e q placed hs = shape2_safe P (λ o o' k k' ho hk'. record { at = λ w c hc. bind (ho.at w c hc) (λ u g v r. bind (hk'.at u c (context_up g hc)) (λ x p a i. get_at_safe P x v a (fine_up L p v r))) }) hs
     act_safe Call ss cs e q placed hs = shape1+_safe P (λ f f' xs ys hf hx. record { at = λ w c hc. bind (hf.at w c hc) (λ u g v r. arguments_safe hx u c (context_up g hc) v Undefined r tt) }) hs
     act_safe (CallEval x) ss cs e q placed hs = record { at = λ w c hc. if_safe (is_unresolved mark x) (leaves_safe leaves) (bind (read_safe P w x c) (λ u g v r. arguments_safe hs u c (context_up g hc) v Undefined r tt)) }
-    act_safe New ss cs e q placed hs = shape1+_safe P (λ m n xs ys hm hx. record { at = λ w c hc. bind (hm.at w c hc) (λ u g v r. bind (all_values_safe P hx u c (context_up g hc)) (λ x p vs rs. make_value_safe P x v vs)) }) hs
+    act_safe New ss cs e q placed hs = shape1+_safe P (λ m n xs ys hm hx. record { at = λ w c hc. bind (hm.at w c hc) (λ u g v r. bind (all_values_safe P hx u c (context_up g hc)) (λ x p vs rs. make_value_safe P hk x v vs rs)) }) hs
     act_safe (CallDot k) ss cs e q placed hs = shape1+_safe P (λ o o' xs ys ho hx. record { at = λ w c hc. bind (ho.at w c hc) (λ u g v r. bind (get_safe P u v k r) (λ x p f i. arguments_safe hx x c (context_up (grown_on g p) hc) f v i (fine_up L p v r))) }) hs
     act_safe CallIndex ss cs e q placed hs = shape2+_safe P (λ o o' k k' xs ys ho hk' hx. record {
       at = λ w c hc. bind (ho.at w c hc) (λ u g v r. bind (hk'.at u c (context_up g hc)) (λ x p a i. bind (get_at_safe P x v a (fine_up L p v r)) (λ y o f j. arguments_safe hx y c (context_up (grown_on g (grown_on p o)) hc) f v j (fine_up L (grown_on p o) v r))));

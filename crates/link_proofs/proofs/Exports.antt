@@ -2,20 +2,19 @@
 use Rattle.std.proofs.Common.{◌≡◌, ℕ, suc, Bool, true, false, ◌||◌, List, [], ◌∷◌, ◌++◌, Some, None, refl, sym, ap, subst, cond, ◌∙◌, bytes_eq}
 use Rattle.swc_ast.specs.declared.Span.{Span}
 use Rattle.swc_ast.specs.Tree.{Name, Text, Module, ExportNamed, node, Forest}
-use Rattle.swc_ast.specs.Value.{Value, Undefined, is_data, all_data, State, Broken, Continued, Returned, Thrown, Outcome, Done, Outside, Run, Context, Meaning}
+use Rattle.swc_ast.specs.Value.{Value, Undefined, Values, State, Broken, Continued, Returned, Thrown, Outcome, Done, Run, Context, Meaning}
 use Rattle.swc_ast.specs.Scope.{Declared, has_name, found, is_found, declared, declared_by, vars_all, vars, import_names, import_names_of}
 use Rattle.swc_ast.specs.Meaning.{◌>>=◌, gives, leaves, Caller, in_scope, cell_of_declared, read, read_bound, eval, run_all, act}
 use Rattle.swc_ast.specs.Call.{each_of, var_cell, in_env, call_at}
-use Rattle.swc_ast.specs.Run.{World as Surroundings, LaterCall, Exports, Answer, Answered, Failed, Ending, Finished, Observation, Observed, Sees, LeftCore, imports_at, item_imports, all_are_data, import_cell, exported, item_exports, specifier_exports, specifier_export, export_text, shown, show_exports, export_name, export_value, call_own, answer_of, answer_to, at_moment, answers, ends, start, finish, once, sources, source_of, run_items, observe_by}
+use Rattle.swc_ast.specs.Run.{World as Surroundings, Callee, Export, Handed, LaterCall, Answered, Failed, Ending, Finished, Observation, Observed, Sees, LeftCore, imports_at, item_imports, all_are_data, import_cell, exported, item_exports, specifier_exports, specifier_export, export_text, show_exports, export_name, export_value, call_callee, answer_of, answer_to, at_moment, answers, ends, start, finish, once, sources, source_of, run_items, observe_by}
 use Rattle.link_proofs.specs.Links.{Links, Proper, linked_act, linked_eval, GoodWhole, good_module, Ground, Respecified, respecified_end, respecified_same, respecified_as, Reexports, reexports_end, reexports_same, reexports_item}
 use Rattle.meaning_proofs.proofs.Imports.{imports_are}
-use Rattle.link_proofs.proofs.State.{World, Fine, FineContext, context_up, FineState, later_itself, Nothing, Ends, done, jump, outside, cut, Runs, SafeCalls, after, gives_safe, leaves_safe, bind}
-use Rattle.link_proofs.proofs.Stores.{all_data_fine, read_bound_safe}
-use Rattle.link_proofs.proofs.Parts.{Any}
+use Rattle.link_proofs.proofs.State.{World, Any, grown_on, Fine, Fines, fines_up, FineContext, context_up, later_itself, Nothing, Ends, done, jump, outside, cut, Runs, SafeCalls, after, gives_safe, leaves_safe, bind}
+use Rattle.link_proofs.proofs.Stores.{read_bound_safe}
 use Rattle.link_proofs.proofs.Fors.{bound_read}
 use Rattle.link_proofs.proofs.Acts.{LinkedRead, same_read, no_read, linked_read}
 use Rattle.link_proofs.proofs.Calls.{call_at_safe}
-use Rattle.link_proofs.proofs.Runs.{all_loose, at_moment_safe, show_next_safe, call_own_safe, whole_scope, ends_seen, if_data, items_then}
+use Rattle.link_proofs.proofs.Runs.{all_loose, at_moment_safe, shown_safe, call_own_safe, call_handle_safe, answer_safe, if_data_safe, whole_scope, ends_seen, if_data, items_then}
 
 -- two lists of exports: some names stand for those of the first
 pub data LinkedExports (L : Links) : List (Text × Name) → List (Text × Name) → Type 0 where
@@ -90,8 +89,8 @@ module _ {L : Links} {mark : ℕ} (P : Proper L mark) where
     shows_linked : {xs ys : List (Text × Name)} → LinkedExports L xs ys → (w : World) (c : Context) → FineContext L w G c → Runs L Nothing Any w (show_exports xs c) (show_exports ys c)
     unfolding show_exports
     shows_linked no_exports w c hc = gives_safe [] tt
-    shows_linked (same_export p h) w c hc = bind (read_bound_safe P w p.1 (c.env p.1)) (λ u g v r. show_next_safe P u p.0 (shown v) (shows_linked h u c (context_up g hc)))
-    shows_linked (other_export t y x l h) w c hc = bind (linked_bound y x l w c hc) (λ u g v r. show_next_safe P u t (shown v) (shows_linked h u c (context_up g hc)))
+    shows_linked (same_export p h) w c hc = bind (read_bound_safe P w p.1 (c.env p.1)) (λ u g v r. bind (shown_safe P u v r) (λ x q a i. bind (shows_linked h x c (context_up (grown_on g q) hc)) (λ y z rest m. gives_safe ((p.0, a) ∷ rest) tt)))
+    shows_linked (other_export t y x l h) w c hc = bind (linked_bound y x l w c hc) (λ u g v r. bind (shown_safe P u v r) (λ z q a i. bind (shows_linked h z c (context_up (grown_on g q) hc)) (λ b d rest m. gives_safe ((t, a) ∷ rest) tt)))
 
     value_linked : {xs ys : List (Text × Name)} → LinkedExports L xs ys → (t : Text) (w : World) (c : Context) → FineContext L w G c → Runs L Nothing (Fine L) w (export_value (export_name t xs) c) (export_value (export_name t ys) c)
     value_linked no_exports t w c hc = leaves_safe leaves
@@ -107,24 +106,18 @@ module _ {L : Links} {mark : ℕ} (P : Proper L mark) where
         go true r q = r
         go false r q = q
 
-    answer_if : {xs ys : List (Text × Name)} → LinkedExports L xs ys → (c : Context) (answer : Value → Exports → Answer) (v : Value) (b : Bool) (w : World) → FineContext L w G c → (s : State) → FineState L w s
-        → Ends L Nothing Any w s (cond b ((show_exports xs c >>= λ shows. gives (answer v shows)) s) Outside) (cond b ((show_exports ys c >>= λ shows. gives (answer v shows)) s) Outside)
-    answer_if hx c answer v true w hc s h = bind (shows_linked hx w c hc) (λ u g shows r. gives_safe (answer v shows) tt) s h
-    answer_if hx c answer v false w hc s h = outside Outside
-
     answer_ends : {xs ys : List (Text × Name)} → LinkedExports L xs ys → (c : Context) {w : World} → FineContext L w G c → {s : State} {o p : Outcome Value} → Ends L Nothing (Fine L) w s o p → Ends L Nothing Any w s (answer_of xs c o) (answer_of ys c p)
-    answer_ends hx c hc (done {a} {v} {t} l h r) = after l (answer_if hx c Answered a (is_data a) v (context_up l.worlds hc) t h)
-    answer_ends hx c hc (jump {j = Thrown a} {v} {t} l h r) = after l (answer_if hx c Failed a (is_data a) v (context_up l.worlds hc) t h)
+    answer_ends hx c hc (done {a} {v} {t} l h r) = after l (answer_safe P v a r Answered (λ u g. shows_linked hx u c (context_up (grown_on l.worlds g) hc)) t h)
+    answer_ends hx c hc (jump {j = Thrown a} {v} {t} l h r) = after l (answer_safe P v a r Failed (λ u g. shows_linked hx u c (context_up (grown_on l.worlds g) hc)) t h)
     answer_ends hx c hc (jump {j = Broken k} l h r) = outside _
     answer_ends hx c hc (jump {j = Continued k} l h r) = outside _
     answer_ends hx c hc (jump {j = Returned v} l h r) = outside _
     answer_ends hx c hc (outside o) = outside _
     answer_ends hx c hc (cut o) = cut _
 
-    arguments_linked : {call call' : Caller} → SafeCalls L call call' → {xs ys : List (Text × Name)} → LinkedExports L xs ys → (t : Text) (c : Context) (vs : _) (w : World) → FineContext L w G c → (b : Bool) → all_data vs ≡ b
-        → Runs L Nothing (Fine L) w (cond b (export_value (export_name t xs) c >>= λ f. call_own call f vs) leaves) (cond b (export_value (export_name t ys) c >>= λ f. call_own call' f vs) leaves)
-    arguments_linked hk hx t c vs w hc true e = bind (value_linked hx t w c hc) (λ u g f r. call_own_safe P hk u f vs r (all_data_fine L u vs e))
-    arguments_linked hk hx t c vs w hc false e = leaves_safe leaves
+    callee_linked : {call call' : Caller} → SafeCalls L call call' → {xs ys : List (Text × Name)} → LinkedExports L xs ys → (f : Callee) (c : Context) (vs : Values) (w : World) → FineContext L w G c → Fines L w vs → Runs L Nothing (Fine L) w (call_callee call xs f vs c) (call_callee call' ys f vs c)
+    callee_linked hk hx (Export t) c vs w hc rs = bind (value_linked hx t w c hc) (λ u g f r. call_own_safe P hk u f vs r (fines_up L g vs rs))
+    callee_linked hk hx (Handed k this) c vs w hc rs = call_handle_safe P hk w k this vs rs
 
     answers_linked : {call call' : Caller} → SafeCalls L call call' → (sur : Surroundings) {ts us : Forest} → Reexports L ts us → ((x : Name) → has_name x (import_names ts) ≡ true → (L.fixed x ≡ false) × (L.still x ≡ false)) → (k : ℕ) (ls : List LaterCall) (c : Context) (w : World) → FineContext L w G c
         → Runs L Nothing Any w (answers call sur ts k ls c) (answers call' sur us k ls c)
@@ -133,7 +126,7 @@ module _ {L : Links} {mark : ℕ} (P : Proper L mark) where
     answers_linked {call} {call'} hk sur {ts} {us} re q k (l ∷ ls) c w hc =
         subst (λ (ps : List (Name × Value)). Runs L Nothing Any w (at_moment (imports_at sur k ts) (answer_to call (exported ts) l c >>= λ a. answers call sur ts (suc k) ls c >>= λ rest. gives (a ∷ rest))) (at_moment ps (answer_to call' (exported us) l c >>= λ a. answers call' sur us (suc k) ls c >>= λ rest. gives (a ∷ rest)))) (same_imports_at sur k re)
         (at_moment_safe P (imports_at sur k ts) (all_loose L (imports_at sur k ts) (λ x e. q x (sym (imports_are x sur k ts) ∙ e))) w
-        (bind {R = Any} (λ s h. answer_ends (exports_linked re) c hc (arguments_linked hk (exports_linked re) l.name c l.arguments w hc (all_data l.arguments) refl s h)) (λ u g a r.
+        (bind {R = Any} (λ s h. answer_ends (exports_linked re) c hc (if_data_safe P l.arguments w (callee_linked hk (exports_linked re) l.callee c l.arguments w hc) s h)) (λ u g a r.
         bind (answers_linked hk sur re q (suc k) ls c u (context_up g hc)) (λ x p rest z. gives_safe (a ∷ rest) tt))))
 
   -- where exports name what names stand for

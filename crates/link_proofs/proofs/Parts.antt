@@ -1,17 +1,18 @@
 -- The parts that the meanings of nodes are made of, in a run in which names stand for names.
-use Rattle.std.proofs.Common.{ℕ, zero, suc, pos, Bool, true, false, ◌&&◌, List, [], ◌∷◌, ◌++◌, Option, Some, None, cond, bytes_eq, codes}
+use Rattle.std.proofs.Common.{◌≡◌, ℕ, zero, suc, length, slice_get, refl, pos, Bool, true, false, ◌&&◌, List, [], ◌∷◌, ◌++◌, Option, Some, None, cond, bytes_eq, codes}
+use Rattle.std.proofs.lemmas.Bool.{and_parts}
 use Rattle.swc_ast.specs.Tree.{Name, ItemKind, Plain, Spread, Hole}
 use Rattle.swc_ast.specs.declared.UpdateOp.{UpdateOp}
 use Rattle.swc_ast.specs.declared.BinaryOp.{BinaryOp}
 use Rattle.swc_ast.specs.Operators.{prim, number_value, to_number, to_text, truthy, is_nullish, binary_value, value_at, values_len, values_append, field_value, insert_field, replace_field, key_before, put_or_replace, put_field, put_fields, field_or_undefined, is_inherited, if_some, index_of, own_property}
-use Rattle.swc_ast.specs.Value.{Value, Undefined, ScriptThis, Num, Text, Items as ItemsValue, Record, Function, Token, Values, ∅, ◌▹◌, Fields, nofield, field, is_data, all_data, Gets, Sets, Calls, Makes, State, Jump, Broken, Continued, Returned, Thrown, Outcome, Done, Jumps, Cut, Run, Context, Meaning}
-use Rattle.swc_ast.specs.Meaning.{leaves, in_core, get, put, get_at, put_at, read_this, token_text, Caller, call_value, make_value, all_values, in_turn, run_all, spread_items, item_values, array_items, template_text, merged, object_fields, key_text, one_field, compute, step_of, short_circuits, shortened, operate, assign, update, choice, bad_shape, shape0, shape1, shape2, shape3, shape1+, shape2+, shape_if, shape_return, plain, loop_goes_on, after_jump, turn, turns, do_turns, at_label, at_break, at_return}
+use Rattle.swc_ast.specs.Value.{Value, Undefined, ScriptThis, Num, Text, Items as ItemsValue, Record, Function, Token, Own, Values, ∅, ◌▹◌, Fields, nofield, field, is_data, all_data, Event, Gets, Sets, Calls, Makes, Returns, Fails, Reply, Gives, Throws, Back, Natives, State, Jump, Broken, Continued, Returned, Thrown, Outcome, Done, Jumps, Cut, Run, Context, Meaning}
+use Rattle.swc_ast.specs.Meaning.{leaves, in_core, inherits, datum, read_member, get, put, get_at, put_at, read_this, token_text, Caller, call_some, call_handed, told, call_back, reply_to_call, replies_to_call, ask_call, call_value, make_value, all_values, in_turn, run_all, spread_items, item_values, array_items, template_text, merged, object_fields, key_text, one_field, compute, step_of, short_circuits, shortened, operate, assign, update, choice, bad_shape, shape0, shape1, shape2, shape3, shape1+, shape2+, shape_if, shape_return, plain, loop_goes_on, after_jump, turn, turns, do_turns, at_label, at_break, at_return}
 use Rattle.swc_ast.specs.Call.{at_call}
 use Rattle.link_proofs.specs.Links.{Links, Ground, Proper}
 use Rattle.meaning_proofs.proofs.Results.{DataIn, binary_data, numeric_data}
 use Rattle.meaning_proofs.proofs.Members.{text_data}
-use Rattle.link_proofs.proofs.State.{World, Grown, grown_itself, grown_on, Fine, fine_up, Fines, fines_up, FineFields, fields_up, FineContext, context_up, FineJump, FineState, Later, Nothing, Ends, done, jump, outside, cut, Runs, Safe, SafeCalls, gives_safe, leaves_safe, jumps_safe, type_error_safe, if_safe, in_core_safe, bind}
-use Rattle.link_proofs.proofs.Stores.{data_fine, ask_safe, tell_safe}
+use Rattle.link_proofs.proofs.State.{World, Any, Grown, grown_itself, grown_on, Fine, fine_up, Fines, fines_up, FineFields, fields_up, FineContext, context_up, FineJump, FineState, Later, Nothing, Ends, done, jump, outside, cut, Runs, Safe, SafeCalls, after, then_ends, gives_safe, leaves_safe, jumps_safe, type_error_safe, if_safe, in_core_safe, bind}
+use Rattle.link_proofs.proofs.Stores.{data_fine, all_data_fine, fine_with, later_with, take_safe, ask_safe, tell_event_safe, hand_safe, hand_all_safe, tell_safe}
 
 -- two lists of meanings, one by one
 pub data Both (R : Meaning → Meaning → Type 0) : List Meaning → List Meaning → Type 0 where
@@ -21,10 +22,6 @@ pub data Both (R : Meaning → Meaning → Type 0) : List Meaning → List Meani
 -- a context in which names G are in scope
 abbrev pub Around : Links → Ground → World → Context → Type 0
 Around L G w c = FineContext L w G c
-
--- any result will do
-abbrev pub Any : {A : Type 0} → World → A → Type 0
-Any w a = Unit {0}
 
 abbrev pub FineIn : Links → World → Option Value → Type 0
 FineIn L w None = Unit {0}
@@ -97,13 +94,24 @@ module _ {L : Links} {mark : ℕ} (P : Proper L mark) where
     pub core_any : {A : Type 0} (w : World) (o : Option A) → Runs L F Any w (in_core o) (in_core o)
     core_any w o = in_core_safe o (λ a e. tt)
 
+    member_safe : (w : World) (o : Option Natives) (v : Value) (k : List ℕ) → Fine L w v → Runs L F (Fine L) w (read_member o v k) (read_member o v k)
+    member_safe w None v k h = core_fine w (own_property v k) (own_property_fine L w v h k)
+    member_safe w (Some n) v k h = λ s i. core_fine w (datum (s.natives n k)) (datum_fine w (s.natives n k)) s i
+      where
+        datum_fine : (w : World) (v : Value) → FineIn L w (datum v)
+        datum_fine w v = go (is_data v) refl
+          where
+            go : (b : Bool) → is_data v ≡ b → FineIn L w (cond b (Some v) None)
+            go true e = data_fine L w v e
+            go false e = tt
+
     pub get_safe : (w : World) (v : Value) (k : List ℕ) → Fine L w v → Runs L F (Fine L) w (get v k) (get v k)
     unfolding get
-    get_safe w v k h = if_safe (token_text v) (ask_safe P w (Gets v k)) (if_safe (is_nullish v) type_error_safe (core_fine w (own_property v k) (own_property_fine L w v h k)))
+    get_safe w v k h = if_safe (token_text v) (ask_safe P w (Gets v k)) (if_safe (is_nullish v) type_error_safe (member_safe w (inherits v k) v k h))
 
     pub put_safe : (w : World) (o : Value) (k : List ℕ) (v : Value) → Fine L w v → Runs L F (Fine L) w (put o k v) (put o k v)
     unfolding put
-    put_safe w o k v h = if_safe (token_text o) (tell_safe P w (Sets o k v) v h) (if_safe (is_nullish o) type_error_safe (leaves_safe leaves))
+    put_safe w o k v h = if_safe (token_text o) (tell_safe P w (Sets o k) v h) (if_safe (is_nullish o) type_error_safe (leaves_safe leaves))
 
     pub get_at_safe : (w : World) (o k : Value) → Fine L w o → Runs L F (Fine L) w (get_at o k) (get_at o k)
     unfolding get_at
@@ -116,14 +124,6 @@ module _ {L : Links} {mark : ℕ} (P : Proper L mark) where
     pub read_this_safe : (w : World) (v : Value) → Fine L w v → Runs L F (Fine L) w (read_this v) (read_this v)
     read_this_safe w ScriptThis h = leaves_safe leaves
     read_this_safe w v h = gives_safe v h
-
-    -- calls
-
-    pub make_value_safe : (w : World) (v : Value) (vs : Values) → Runs L F (Fine L) w (make_value v vs) (make_value v vs)
-    unfolding make_value
-    make_value_safe w (Token n b) vs = if_safe (all_data vs) (ask_safe P w (Makes (Token n b) vs)) (leaves_safe leaves)
-    make_value_safe w (Function f e t) vs = leaves_safe leaves
-    make_value_safe w _ vs = type_error_safe
 
     -- operators
 
@@ -181,11 +181,62 @@ module _ {L : Links} {mark : ℕ} (P : Proper L mark) where
     merged_safe w fs (Record gs) h r = gives_safe (put_fields fs gs) (put_fields_fine L w gs fs r h)
     merged_safe w fs _ h r = leaves_safe leaves
 
+  -- calls
+
+  call_some_safe : {call call' : Caller} → SafeCalls L call call' → (w : World) (o : Option Value) (t : Value) (vs : Values) → ((v : Value) → o ≡ Some v → Fine L w v) → Fine L w t → Fines L w vs → Runs L Nothing (Fine L) w (call_some call o t vs) (call_some call' o t vs)
+  call_some_safe hk w None t vs hf ht hs = leaves_safe leaves
+  call_some_safe hk w (Some f) t vs hf ht hs = hk.by w f t vs (hf f refl) ht hs
+
+  pub call_handed_safe : {call call' : Caller} → SafeCalls L call call' → (w : World) (k : ℕ) (t : Value) (vs : Values) → Fine L w t → Fines L w vs → Runs L Nothing (Fine L) w (call_handed call k t vs) (call_handed call' k t vs)
+  unfolding call_handed
+  call_handed_safe hk w k t vs ht hs s h = call_some_safe hk w (slice_get s.handed k) t vs (λ v e. h.handed k v e) ht hs s h
+
+  -- the host calls functions that were handed to it
+
+  told_ends : {w : World} {s : State} {o p : Outcome Value} → Ends L Nothing (Fine L) w s o p → Ends L Nothing (Fine L) w s (told o) (told p)
+  told_ends (done {a} {v} {t} l h r) = after l (then_ends (hand_safe P v a r t h) (λ u g b q. tell_event_safe P u (Returns b)))
+  told_ends (jump {j = Thrown a} {v} {t} l h r) = after l (then_ends (hand_safe P v a r t h) (λ u g b q. tell_event_safe P u (Fails b)))
+  told_ends (jump {j = Broken k} l h r) = outside _
+  told_ends (jump {j = Continued k} l h r) = outside _
+  told_ends (jump {j = Returned v} l h r) = outside _
+  told_ends (outside o) = outside _
+  told_ends (cut o) = cut _
+
+  call_back_safe : {call call' : Caller} → SafeCalls L call call' → (w : World) (k : ℕ) (t : Value) (vs : Values) → Runs L Nothing (Fine L) w (call_back call k t vs) (call_back call' k t vs)
+  call_back_safe {call} {call'} hk w k t vs = go (is_data t && all_data vs) refl
+    where
+      go : (b : Bool) → (is_data t && all_data vs) ≡ b → Runs L Nothing (Fine L) w (cond b (λ (s : State). told (call_handed call k t vs s)) leaves) (cond b (λ (s : State). told (call_handed call' k t vs s)) leaves)
+      go true e = λ s h. let p = and_parts (is_data t) (all_data vs) e in told_ends (call_handed_safe hk w k t vs (data_fine L w t p.0) (all_data_fine L w vs p.1) s h)
+      go false e = leaves_safe leaves
+
+  reply_safe : {call call' : Caller} → SafeCalls L call call' → {next next' : Run Value} → ((w : World) → Runs L Nothing (Fine L) w next next') → (w : World) (rs : List Reply) → Runs L Nothing (Fine L) w (reply_to_call call next rs) (reply_to_call call' next' rs)
+  reply_safe hk hn w [] = λ s h. take_safe P w [] s h
+  reply_safe hk hn w (Gives v ∷ rs) = λ s h. take_safe P w (Gives v ∷ rs) s h
+  reply_safe hk hn w (Throws v ∷ rs) = λ s h. take_safe P w (Throws v ∷ rs) s h
+  reply_safe hk hn w (Back k t vs ∷ rs) = λ s h. after (later_with P w s s.events rs s.handed) (then_ends (call_back_safe hk w k t vs (record s { replies = rs }) (fine_with P w s s.events rs s.handed h h.handed)) (λ u g v r. hn u))
+
+  replies_safe : {call call' : Caller} → SafeCalls L call call' → (n : ℕ) (w : World) → Runs L Nothing (Fine L) w (replies_to_call call n) (replies_to_call call' n)
+  unfolding replies_to_call
+  replies_safe hk zero w = λ s h. cut _
+  replies_safe hk (suc n) w = λ s h. reply_safe hk (replies_safe hk n) w s.replies s h
+
+  ask_call_safe : {call call' : Caller} → SafeCalls L call call' → (w : World) (e : Event) → Runs L Nothing (Fine L) w (ask_call call e) (ask_call call' e)
+  unfolding ask_call
+  ask_call_safe hk w e = λ s h. let es = s.events ++ e ∷ [] in after (later_with P w s es s.replies s.handed) (replies_safe hk (length s.replies) w (record s { events = es }) (fine_with P w s es s.replies s.handed h h.handed))
+
   pub call_value_safe : {call call' : Caller} → SafeCalls L call call' → (w : World) (f t : Value) (vs : Values) → Fine L w f → Fine L w t → Fines L w vs → Runs L Nothing (Fine L) w (call_value call f t vs) (call_value call' f t vs)
   unfolding call_value
   call_value_safe hk w (Function f e u) t vs hf ht hs = hk.by w (Function f e u) t vs hf ht hs
-  call_value_safe hk w (Token n b) t vs hf ht hs = if_safe (is_data t && all_data vs) (ask_safe P w (Calls (Token n b) t vs)) (leaves_safe leaves)
+  call_value_safe hk w (Token n b) t vs hf ht hs = bind (hand_safe P w t ht) (λ u g a q. bind (hand_all_safe P u vs (fines_up L g vs hs)) (λ x p us r. ask_call_safe hk x (Calls (Token n b) a us)))
+  call_value_safe hk w (Own k) t vs hf ht hs = call_handed_safe hk w k t vs ht hs
   call_value_safe hk w _ t vs hf ht hs = type_error_safe
+
+  pub make_value_safe : {call call' : Caller} → SafeCalls L call call' → (w : World) (v : Value) (vs : Values) → Fines L w vs → Runs L Nothing (Fine L) w (make_value call v vs) (make_value call' v vs)
+  unfolding make_value
+  make_value_safe hk w (Token n b) vs hs = bind (hand_all_safe P w vs hs) (λ u g us q. ask_call_safe hk u (Makes (Token n b) us))
+  make_value_safe hk w (Function f e t) vs hs = leaves_safe leaves
+  make_value_safe hk w (Own k) vs hs = leaves_safe leaves
+  make_value_safe hk w _ vs hs = type_error_safe
 
   -- turns
 

@@ -1,20 +1,20 @@
 -- Whole runs of modules and scripts in which names stand for names.
 use Rattle.std.proofs.Common.{◌≡◌, ℕ, suc, Bool, true, false, ◌||◌, List, [], ◌∷◌, Option, Some, None, refl, sym, ap, subst, slice_get, cond, ◌∙◌}
 use Rattle.std.proofs.lemmas.Bool.{false≢true, and_parts}
-use Rattle.swc_ast.specs.Tree.{Name, same_name, Text, Tree, Forest}
-use Rattle.swc_ast.specs.Value.{Env, Value, Undefined, ScriptThis, Function as FunctionValue, Values, is_data, all_data, Cell, State, Broken, Continued, Returned, Thrown, Outcome, Outside, Run, Context}
+use Rattle.swc_ast.specs.Tree.{Name, same_name, Text, Tree, Forest, ε}
+use Rattle.swc_ast.specs.Value.{Env, Value, Undefined, Null, NaN, TypeError, ScriptThis, Truth, Num, Text as TextValue, Items as ItemsValue, Record, Function as FunctionValue, Token, Own as OwnValue, Values, is_data, all_data, Cell, State, Broken, Continued, Returned, Thrown, Outcome, Run, and_then, Context}
 use Rattle.swc_ast.specs.Scope.{Declaration, Lexical, Function as DeclaredFunction, has_name, found, is_found, declared, import_names}
-use Rattle.swc_ast.specs.Meaning.{◌>>=◌, gives, leaves, Caller, in_scope, cell_of_declared, set_cell, eval, run_all}
+use Rattle.swc_ast.specs.Meaning.{◌>>=◌, gives, leaves, Caller, in_scope, cell_of_declared, set_cell, eval, run_all, hand, call_handed}
 use Rattle.swc_ast.specs.Call.{each_of, var_cell, body_cells, in_env, call_at}
-use Rattle.swc_ast.specs.Run.{World as Surroundings, LaterCall, Shown, Exports, Answer, Answered, Failed, Ending, Finished, Observation, Observed, Sees, LeftCore, imports_at, all_are_data, import_cell, refreshed, exported, shown, show_next, show_exports, export_name, export_value, call_own, answer_of, at_moment, answers, ends, start, finish, once, sources, run_items, run_statements, observe_by}
+use Rattle.swc_ast.specs.Run.{World as Surroundings, Callee, Export, Handed, LaterCall, Datum, OwnFunction, Answered, Failed, Ending, Finished, Observation, Observed, Sees, LeftCore, imports_at, all_are_data, import_cell, refreshed, exported, shown, show_exports, export_name, export_value, call_own, call_callee, answer_of, at_moment, answers, ends, start, finish, once, sources, run_items, run_statements, observe_by}
 use Rattle.link_proofs.specs.Links.{Links, empty_ground, Ground, Proper, linked_eval, Functions, functions, IsLexical, lexical, IsConstant, constant, KnownBirth, known_lexical, known_variable, beside, Items, OpensWhole, GoodWhole, good_module, good_script}
 use Rattle.meaning_proofs.proofs.Names.{same_itself}
 use Rattle.meaning_proofs.proofs.Finds.{is_none}
 use Rattle.meaning_proofs.proofs.Imports.{imports_are}
-use Rattle.link_proofs.proofs.State.{World, grown_itself, Fine, fine_up, Fines, FineEnv, FineContext, context_up, Behind, Steady, is_fixed, is_still, Holds, calmed, FineState, Stays, stays, Later, Nothing, Ends, done, jump, outside, cut, Runs, SafeCalls, after, freer, gives_safe, leaves_safe, bind, then_ends}
-use Rattle.link_proofs.proofs.Stores.{data_fine, all_data_fine, read_bound_safe, SetAt, here, elsewhere, set_at, store_length}
+use Rattle.link_proofs.proofs.State.{World, Any, Grown, grown_itself, Fine, fine_up, Fines, fines_up, FineEnv, FineContext, context_up, Behind, Steady, is_fixed, is_still, Holds, calmed, FineState, Stays, stays, Later, Nothing, Ends, done, jump, outside, cut, Runs, SafeCalls, after, freer, gives_safe, leaves_safe, bind, then_ends}
+use Rattle.link_proofs.proofs.Stores.{data_fine, all_data_fine, hand_safe, read_bound_safe, SetAt, here, elsewhere, set_at, store_length}
 use Rattle.link_proofs.proofs.Scopes.{Own, Pend, SomeCell, EmptyCell, NewCells, in_scope_safe}
-use Rattle.link_proofs.proofs.Parts.{Any}
+use Rattle.link_proofs.proofs.Parts.{call_handed_safe}
 use Rattle.link_proofs.proofs.Calls.{items_each, call_at_safe}
 
 none_is_some : {A : Type 0} {a : A} → None ≡ Some a → ⊥
@@ -49,6 +49,7 @@ module _ {L : Links} {mark : ℕ} (P : Proper L mark) where
     known = λ y a l j b u e p. known_at y a l j b u e p (set_at s x k c y j);
     frozen = λ y g j b e. frozen_at y g j b e (set_at s x k c y j);
     facts = λ z j u e. let o = h.facts z j u e in facts_at z j u o (set_at s x k c z j);
+    handed = h.handed;
   }
     where
       fine_at : (z : Name) (j : ℕ) (b : Cell) (u : Value) → slice_get ((set_cell s x k c).store z) j ≡ Some b → b.held ≡ Some u → SetAt s x k c z j → Fine L w u
@@ -105,14 +106,28 @@ module _ {L : Links} {mark : ℕ} (P : Proper L mark) where
 
   -- exports
 
-  pub show_next_safe : (w : World) (t : Text) (o : Option Shown) {m n : Run Exports} → Runs L Nothing Any w m n → Runs L Nothing Any w (show_next t o m) (show_next t o n)
-  show_next_safe w t None h = leaves_safe leaves
-  show_next_safe w t (Some v) h = bind h (λ u g rest r. gives_safe ((t, v) ∷ rest) tt)
+  hand_shown_safe : (w : World) (v : Value) → Fine L w v → Runs L Nothing Any w (hand v >>= λ a. gives (Datum a)) (hand v >>= λ a. gives (Datum a))
+  hand_shown_safe w v r = bind (hand_safe P w v r) (λ u g a q. gives_safe (Datum a) tt)
+
+  pub shown_safe : (w : World) (v : Value) → Fine L w v → Runs L Nothing Any w (shown v) (shown v)
+  shown_safe w (FunctionValue f e t) r = gives_safe OwnFunction tt
+  shown_safe w Undefined r = hand_shown_safe w Undefined r
+  shown_safe w Null r = hand_shown_safe w Null r
+  shown_safe w NaN r = hand_shown_safe w NaN r
+  shown_safe w TypeError r = hand_shown_safe w TypeError r
+  shown_safe w ScriptThis r = hand_shown_safe w ScriptThis r
+  shown_safe w (Truth b) r = hand_shown_safe w (Truth b) r
+  shown_safe w (Num z) r = hand_shown_safe w (Num z) r
+  shown_safe w (TextValue t) r = hand_shown_safe w (TextValue t) r
+  shown_safe w (ItemsValue vs) r = hand_shown_safe w (ItemsValue vs) r
+  shown_safe w (Record fs) r = hand_shown_safe w (Record fs) r
+  shown_safe w (Token n b) r = hand_shown_safe w (Token n b) r
+  shown_safe w (OwnValue k) r = hand_shown_safe w (OwnValue k) r
 
   show_exports_safe : (xs : List (Text × Name)) (w : World) (c : Context) → Runs L Nothing Any w (show_exports xs c) (show_exports xs c)
   unfolding show_exports
   show_exports_safe [] w c = gives_safe [] tt
-  show_exports_safe (p ∷ ps) w c = bind (read_bound_safe P w p.1 (c.env p.1)) (λ u g v r. show_next_safe u p.0 (shown v) (show_exports_safe ps u c))
+  show_exports_safe (p ∷ ps) w c = bind (read_bound_safe P w p.1 (c.env p.1)) (λ u g v r. bind (shown_safe u v r) (λ x q a i. bind (show_exports_safe ps x c) (λ y z rest m. gives_safe ((p.0, a) ∷ rest) tt)))
 
   export_value_safe : (o : Option Name) (w : World) (c : Context) → Runs L Nothing (Fine L) w (export_value o c) (export_value o c)
   export_value_safe None w c = leaves_safe leaves
@@ -122,32 +137,46 @@ module _ {L : Links} {mark : ℕ} (P : Proper L mark) where
 
   pub call_own_safe : {call call' : Caller} → SafeCalls L call call' → (w : World) (f : Value) (vs : Values) → Fine L w f → Fines L w vs → Runs L Nothing (Fine L) w (call_own call f vs) (call_own call' f vs)
   call_own_safe hk w (FunctionValue f e t) vs r rs = hk.by w (FunctionValue f e t) Undefined vs r tt rs
+  call_own_safe hk w (OwnValue k) vs r rs = call_handed_safe P hk w k Undefined vs tt rs
   call_own_safe hk w _ vs r rs = leaves_safe leaves
 
-  answer_if : (xs : List (Text × Name)) (c : Context) (answer : Value → Exports → Answer) (v : Value) (b : Bool) (w : World) (s : State) → FineState L w s
-      → Ends L Nothing Any w s (cond b ((show_exports xs c >>= λ shows. gives (answer v shows)) s) Outside) (cond b ((show_exports xs c >>= λ shows. gives (answer v shows)) s) Outside)
-  answer_if xs c answer v true w s h = bind (show_exports_safe xs w c) (λ u g shows r. gives_safe (answer v shows) tt) s h
-  answer_if xs c answer v false w s h = outside Outside
+  pub call_handle_safe : {call call' : Caller} → SafeCalls L call call' → (w : World) (k : ℕ) (this : Value) (vs : Values) → Fines L w vs → Runs L Nothing (Fine L) w (cond (is_data this) (call_handed call k this vs) leaves) (cond (is_data this) (call_handed call' k this vs) leaves)
+  call_handle_safe {call} {call'} hk w k this vs rs = go (is_data this) refl
+    where
+      go : (b : Bool) → is_data this ≡ b → Runs L Nothing (Fine L) w (cond b (call_handed call k this vs) leaves) (cond b (call_handed call' k this vs) leaves)
+      go true e = call_handed_safe P hk w k this vs (data_fine L w this e) rs
+      go false e = leaves_safe leaves
+
+  call_callee_safe : {call call' : Caller} → SafeCalls L call call' → (xs : List (Text × Name)) (f : Callee) (vs : Values) (c : Context) (w : World) → Fines L w vs → Runs L Nothing (Fine L) w (call_callee call xs f vs c) (call_callee call' xs f vs c)
+  call_callee_safe hk xs (Export t) vs c w rs = bind (export_value_safe (export_name t xs) w c) (λ u g f r. call_own_safe hk u f vs r (fines_up L g vs rs))
+  call_callee_safe hk xs (Handed k this) vs c w rs = call_handle_safe hk w k this vs rs
+
+  pub answer_safe : {A B : Type 0} (w : World) (v : Value) → Fine L w v → (answer : Value → B → A) {m n : Run B} → ((u : World) → Grown w u → Runs L Nothing Any u m n) → (s : State) → FineState L w s
+      → Ends L Nothing Any w s (and_then (hand v s) (λ x. m >>= λ shows. gives (answer x shows))) (and_then (hand v s) (λ x. n >>= λ shows. gives (answer x shows)))
+  answer_safe w v r answer hm s h = then_ends (hand_safe P w v r s h) (λ u g x q. bind (hm u g) (λ y p shows z. gives_safe (answer x shows) tt))
 
   answer_of_ends : (xs : List (Text × Name)) (c : Context) {w : World} {s : State} {o p : Outcome Value} → Ends L Nothing (Fine L) w s o p → Ends L Nothing Any w s (answer_of xs c o) (answer_of xs c p)
-  answer_of_ends xs c (done {a} {v} {t} l h r) = after l (answer_if xs c Answered a (is_data a) v t h)
-  answer_of_ends xs c (jump {j = Thrown a} {v} {t} l h r) = after l (answer_if xs c Failed a (is_data a) v t h)
+  answer_of_ends xs c (done {a} {v} {t} l h r) = after l (answer_safe v a r Answered (λ u g. show_exports_safe xs u c) t h)
+  answer_of_ends xs c (jump {j = Thrown a} {v} {t} l h r) = after l (answer_safe v a r Failed (λ u g. show_exports_safe xs u c) t h)
   answer_of_ends xs c (jump {j = Broken k} l h r) = outside _
   answer_of_ends xs c (jump {j = Continued k} l h r) = outside _
   answer_of_ends xs c (jump {j = Returned v} l h r) = outside _
   answer_of_ends xs c (outside o) = outside _
   answer_of_ends xs c (cut o) = cut _
 
-  arguments_safe : {call call' : Caller} → SafeCalls L call call' → (o : Option Name) (c : Context) (vs : Values) (w : World) (b : Bool) → all_data vs ≡ b → Runs L Nothing (Fine L) w (cond b (export_value o c >>= λ f. call_own call f vs) leaves) (cond b (export_value o c >>= λ f. call_own call' f vs) leaves)
-  arguments_safe hk o c vs w true e = bind (export_value_safe o w c) (λ u g f r. call_own_safe hk u f vs r (all_data_fine L u vs e))
-  arguments_safe hk o c vs w false e = leaves_safe leaves
+  pub if_data_safe : (vs : Values) (w : World) {m n : Run Value} → (Fines L w vs → Runs L Nothing (Fine L) w m n) → Runs L Nothing (Fine L) w (cond (all_data vs) m leaves) (cond (all_data vs) n leaves)
+  if_data_safe vs w {m} {n} h = go (all_data vs) refl
+    where
+      go : (b : Bool) → all_data vs ≡ b → Runs L Nothing (Fine L) w (cond b m leaves) (cond b n leaves)
+      go true e = h (all_data_fine L w vs e)
+      go false e = leaves_safe leaves
 
   answers_safe : {call call' : Caller} → SafeCalls L call call' → (sur : Surroundings) (ts : Forest) → ((x : Name) → has_name x (import_names ts) ≡ true → (L.fixed x ≡ false) × (L.still x ≡ false)) → (k : ℕ) (ls : List LaterCall) (c : Context) (w : World) → Runs L Nothing Any w (answers call sur ts k ls c) (answers call' sur ts k ls c)
   unfolding answers
   answers_safe hk sur ts q k [] c w = gives_safe [] tt
   answers_safe hk sur ts q k (l ∷ ls) c w =
       at_moment_safe (imports_at sur k ts) (all_loose L (imports_at sur k ts) (λ x e. q x (sym (imports_are x sur k ts) ∙ e))) w
-      (bind {R = Any} (λ s h. answer_of_ends (exported ts) c (arguments_safe hk (export_name l.name (exported ts)) c l.arguments w (all_data l.arguments) refl s h)) (λ u g a r.
+      (bind {R = Any} (λ s h. answer_of_ends (exported ts) c (if_data_safe l.arguments w (call_callee_safe hk (exported ts) l.callee l.arguments c w) s h)) (λ u g a r.
       bind (answers_safe hk sur ts q (suc k) ls c u) (λ x p rest z. gives_safe (a ∷ rest) tt)))
 
   finish_safe : {call call' : Caller} → SafeCalls L call call' → (sur : Surroundings) (ts : Forest) → ((x : Name) → has_name x (import_names ts) ≡ true → (L.fixed x ≡ false) × (L.still x ≡ false)) → (ls : List LaterCall) (c : Context) (w : World) → Runs L Nothing Any w (finish call sur ts ls c) (finish call' sur ts ls c)
@@ -219,7 +248,7 @@ module _ {L : Links} {mark : ℕ} (P : Proper L mark) where
   first_world = record { links = λ z. []; facts = λ z k. None }
 
   start_fine : (loads : List Text) (sur : Surroundings) → FineState L first_world (start loads sur)
-  start_fine loads sur = record { sized = λ z f. refl; fine = λ z k c v e p. cc; linked = λ y x l k c v e p. cc; known = λ y u l k c v e p. cc; frozen = λ x f k c e. cc; facts = λ z k u e. cc }
+  start_fine loads sur = record { sized = λ z f. refl; fine = λ z k c v e p. cc; linked = λ y x l k c v e p. cc; known = λ y u l k c v e p. cc; frozen = λ x f k c e. cc; facts = λ z k u e. cc; handed = λ k v e. cc }
 
   first_context : (v : Value) → Fine L first_world v → FineContext L first_world empty_ground (in_env (λ x. None) v)
   first_context v r = record { env = record { hidden = λ z e. refl; shown = λ z e. absurd (false≢true e); at = λ z f k e. cc; settled = λ z q. absurd (false≢true q); fresh = λ z q k e. cc }; this = r }
@@ -254,4 +283,4 @@ module _ {L : Links} {mark : ℕ} (P : Proper L mark) where
       if_data (all_are_data (imports_at sur 0 ts)) o (λ q. ends_seen (whole_scope op hf (imports_at sur 0 ts) (λ x e. (hi x (sym (imports_are x sur 0 ts) ∙ e)).0) q Undefined Undefined tt tt
       (λ v c s hc p h. items_then hs n d (λ w c hc. finish_safe (call_at_safe P n d) sur ts hi calls c w) v c s hc p h) (once [] (sources ts)) sur) o)
   whole_linked (good_script {ts = ts} B op hf hs) n d sur calls o =
-      ends_seen (whole_scope op hf [] (λ x e. absurd (false≢true e)) refl Undefined ScriptThis tt tt (λ v c s hc p h. items_then hs n d (λ w c hc. gives_safe (Finished [] []) tt) v c s hc p h) [] sur) o
+      ends_seen (whole_scope op hf [] (λ x e. absurd (false≢true e)) refl Undefined ScriptThis tt tt (λ v c s hc p h. items_then hs n d (λ w c hc. finish_safe (call_at_safe P n d) sur ε (λ x e. absurd (false≢true e)) calls c w) v c s hc p h) [] sur) o

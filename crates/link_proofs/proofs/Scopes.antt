@@ -151,6 +151,7 @@ module _ {L : Links} where
     known = λ y u l k c v p q. known y u l k c v p q (binds y) refl (cells y) refl;
     frozen = λ x f k c p. frozen x f k c p (binds x) refl (cells x) refl;
     facts = λ z k u e. let o = h.facts z k u e in record { steady = o.steady; cell = o.cell; there = more_cells (binds z) (s.store z) (cells z) k o.cell o.there; holds = o.holds };
+    handed = λ k v e. fine_up L (opened_grown L binds _ w) v (h.handed k v e);
   }
     where
       w1 : World

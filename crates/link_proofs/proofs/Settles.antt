@@ -90,6 +90,7 @@ module _ {L : Links} {mark : ℕ} (P : Proper L mark) where
           known = f.known;
           frozen = f.frozen;
           facts = λ z n v r. first z n v (same_name y z && (k == n)) refl r;
+          handed = λ n v r. fine_by L extends v (f.handed n v r);
         }
       where
         second : (z : Name) (n : ℕ) (v : Value) (b : Bool) → (same_name x z && (j == n)) ≡ b → cond b (Some u) (w.facts z n) ≡ Some v → Holds L next z n v
@@ -147,6 +148,7 @@ module _ {L : Links} {mark : ℕ} (P : Proper L mark) where
       known = o.known;
       frozen = o.frozen;
       facts = λ z n v r. o.facts z n v (sym (m z n) ∙ facts_kept z n v r);
+      handed = λ n v r. fine_by L (record { at = λ z n o r. r }) v (o.handed n v r);
     }
 
     forget_jump : (b : World) (v : Jump) → FineJump L b v → FineJump L (forgotten b) v

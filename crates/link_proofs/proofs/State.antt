@@ -116,6 +116,7 @@ pub record FineState (L : Links) (w : World) (s : State) : Type 0 where
   pub known : (y : Name) (u : Value) → L.known y ≡ Some u → (k : ℕ) (c : Cell) (v : Value) → slice_get (s.store y) k ≡ Some c → c.held ≡ Some v → v ≡ u
   pub frozen : (x : Name) → L.constant x ≡ true → (k : ℕ) (c : Cell) → slice_get (s.store x) k ≡ Some c → c.writable ≡ false
   pub facts : (z : Name) (k : ℕ) (u : Value) → w.facts z k ≡ Some u → Holds L s z k u
+  pub handed : (k : ℕ) (v : Value) → slice_get s.handed k ≡ Some v → Fine L w v
 
 -- a cell stays as it is, or may be set
 pub data Stays (F : Name → ℕ → Type 0) (x : Name) (k : ℕ) (c : Cell) (cs : List Cell) : Type 0 where
@@ -126,6 +127,10 @@ pub data Stays (F : Name → ℕ → Type 0) (x : Name) (k : ℕ) (c : Cell) (cs
 pub record Later (L : Links) (F : Name → ℕ → Type 0) (w : World) (s : State) (v : World) (t : State) : Type 0 where
   pub worlds : Grown w v
   pub cells : (x : Name) → L.fixed x ≡ true → (k : ℕ) (c : Cell) → slice_get (s.store x) k ≡ Some c → Stays F x k c (t.store x)
+
+-- any result will do
+abbrev pub Any : {A : Type 0} → World → A → Type 0
+Any w a = Unit {0}
 
 -- no cell may be set
 abbrev pub Nothing : Name → ℕ → Type 0

@@ -2,12 +2,12 @@
 use Rattle.std.proofs.Common.{◌≡◌, ℕ, zero, suc, Bool, true, false, ◌&&◌, List, [], ◌∷◌, ◌++◌, Option, Some, None, refl, sym, ap, subst, length, slice_get, slice_set, cond, ◌∙◌}
 use Rattle.std.proofs.lemmas.Bool.{false≢true}
 use Rattle.swc_ast.specs.Tree.{Name, same_name}
-use Rattle.swc_ast.specs.Value.{Value, Undefined, NaN, Items as ItemsValue, Record, Function, Values, ∅, ◌▹◌, Fields, nofield, field, is_data, all_data, fields_data, Event, Reads, Writes, Reply, Gives, Throws, Cell, State, Thrown, Done, Jumps, Outside, Cut, Context}
-use Rattle.swc_ast.specs.Meaning.{◌>>=◌, gives, leaves, take_reply, ask, is_unresolved, cell_at, set_cell, held_value, read_bound, read_host, read, write_cell, write_bound, write_host, write, is_initialised, initialise_cell, initialise_bound, initialise}
+use Rattle.swc_ast.specs.Value.{Value, Undefined, Null, NaN, TypeError, ScriptThis, Truth, Num, Text, Items as ItemsValue, Record, Function, Token, Own, Values, ∅, ◌▹◌, Fields, nofield, field, is_data, all_data, fields_data, Event, Reads, Writes, Reply, Gives, Throws, Back, Cell, State, Thrown, Done, Jumps, Outside, Cut, Context}
+use Rattle.swc_ast.specs.Meaning.{◌>>=◌, gives, leaves, take_reply, ask, tell, hand_function, hand, hand_all, hand_fields, is_unresolved, cell_at, set_cell, held_value, read_bound, read_host, read, write_cell, write_bound, write_host, write, is_initialised, initialise_cell, initialise_bound, initialise}
 use Rattle.std.proofs.lemmas.Bool.{and_parts}
 use Rattle.link_proofs.specs.Links.{Links, Proper, Written, may_write, never_writes}
 use Rattle.meaning_proofs.proofs.Names.{same_name_eq}
-use Rattle.link_proofs.proofs.State.{World, grown_itself, Fine, Fines, FineFields, Behind, Steady, is_fixed, is_still, Holds, FineState, Stays, stays, is_free, Later, Ends, done, jump, outside, cut, Runs, gives_safe, leaves_safe, if_safe, in_core_safe, bind}
+use Rattle.link_proofs.proofs.State.{World, Any, grown_itself, Fine, fine_up, Fines, fines_up, FineFields, fields_up, Behind, Steady, is_fixed, is_still, Holds, FineState, Stays, stays, is_free, Later, Ends, done, jump, outside, cut, Runs, after, gives_safe, leaves_safe, if_safe, in_core_safe, bind}
 
 -- data
 
@@ -122,6 +122,7 @@ module _ {L : Links} {mark : ℕ} (P : Proper L mark) where
     known = λ y a l j b u e p. known_at y a l j b u e p (set_at s x k c y j) q;
     frozen = λ y f j b e. frozen_at y f j b e (set_at s x k c y j);
     facts = λ z j u e. let o = h.facts z j u e in facts_at z j u e o q (set_at s x k c z j);
+    handed = h.handed;
   }
     where
       c : Cell
@@ -200,24 +201,79 @@ module _ {L : Links} {mark : ℕ} (P : Proper L mark) where
 
   -- the host
 
-  take_safe : {F : Name → ℕ → Type 0} (w : World) (rs : List Reply) (s t : State) → Later L F w s w t → FineState L w t → Ends L F (Fine L) w s (take_reply rs t) (take_reply rs t)
-  take_safe w [] s t l h = cut Cut
-  take_safe {F} w (Gives v ∷ rs) s t l h = go (is_data v) refl
+  -- a state with the same cells, where what was handed to the host is fine
+  pub fine_with : (w : World) (s : State) (es : List Event) (rs : List Reply) (vs : List Value) → FineState L w s → ((k : ℕ) (v : Value) → slice_get vs k ≡ Some v → Fine L w v) → FineState L w (record s { events = es; replies = rs; handed = vs })
+  fine_with w s es rs vs h q = record {
+    sized = h.sized;
+    fine = h.fine;
+    linked = λ y x l k c u p o. let b = h.linked y x l k c u p o in record { index = b.index; cell = b.cell; linked = b.linked; there = b.there; holds = b.holds };
+    known = h.known;
+    frozen = h.frozen;
+    facts = λ z k u e. let b = h.facts z k u e in record { steady = b.steady; cell = b.cell; there = b.there; holds = b.holds };
+    handed = q;
+  }
+
+  pub later_with : {F : Name → ℕ → Type 0} (w : World) (s : State) (es : List Event) (rs : List Reply) (vs : List Value) → Later L F w s w (record s { events = es; replies = rs; handed = vs })
+  later_with w s es rs vs = record { worlds = grown_itself; cells = λ x f k c q. stays q }
+
+  pub take_safe : {F : Name → ℕ → Type 0} (w : World) (rs : List Reply) → Runs L F (Fine L) w (take_reply rs) (take_reply rs)
+  take_safe w [] t h = cut Cut
+  take_safe {F} w (Gives v ∷ rs) t h = go (is_data v) refl
     where
-      go : (b : Bool) → is_data v ≡ b → Ends L F (Fine L) w s (cond b (Done v (record t { replies = rs })) Outside) (cond b (Done v (record t { replies = rs })) Outside)
-      go true e = done (record { worlds = l.worlds; cells = l.cells }) (record { sized = h.sized; fine = h.fine; linked = λ y x q k c u p o. let b = h.linked y x q k c u p o in record { index = b.index; cell = b.cell; linked = b.linked; there = b.there; holds = b.holds }; known = h.known; frozen = h.frozen; facts = λ z k u e. let b = h.facts z k u e in record { steady = b.steady; cell = b.cell; there = b.there; holds = b.holds } }) (data_fine L w v e)
+      go : (b : Bool) → is_data v ≡ b → Ends L F (Fine L) w t (cond b (Done v (record t { replies = rs })) Outside) (cond b (Done v (record t { replies = rs })) Outside)
+      go true e = done (later_with w t t.events rs t.handed) (fine_with w t t.events rs t.handed h h.handed) (data_fine L w v e)
       go false e = outside Outside
-  take_safe {F} w (Throws v ∷ rs) s t l h = go (is_data v) refl
+  take_safe {F} w (Throws v ∷ rs) t h = go (is_data v) refl
     where
-      go : (b : Bool) → is_data v ≡ b → Ends L F (Fine L) w s (cond b (Jumps (Thrown v) (record t { replies = rs })) Outside) (cond b (Jumps (Thrown v) (record t { replies = rs })) Outside)
-      go true e = jump (record { worlds = l.worlds; cells = l.cells }) (record { sized = h.sized; fine = h.fine; linked = λ y x q k c u p o. let b = h.linked y x q k c u p o in record { index = b.index; cell = b.cell; linked = b.linked; there = b.there; holds = b.holds }; known = h.known; frozen = h.frozen; facts = λ z k u e. let b = h.facts z k u e in record { steady = b.steady; cell = b.cell; there = b.there; holds = b.holds } }) (data_fine L w v e)
+      go : (b : Bool) → is_data v ≡ b → Ends L F (Fine L) w t (cond b (Jumps (Thrown v) (record t { replies = rs })) Outside) (cond b (Jumps (Thrown v) (record t { replies = rs })) Outside)
+      go true e = jump (later_with w t t.events rs t.handed) (fine_with w t t.events rs t.handed h h.handed) (data_fine L w v e)
       go false e = outside Outside
+  take_safe w (Back k this args ∷ rs) t h = outside Outside
 
   pub ask_safe : {F : Name → ℕ → Type 0} (w : World) (e : Event) → Runs L F (Fine L) w (ask e) (ask e)
   unfolding ask
   ask_safe w e s h =
-      take_safe w s.replies s (record s { events = s.events ++ e ∷ [] }) (record { worlds = grown_itself; cells = λ x f k c q. stays q })
-      (record { sized = h.sized; fine = h.fine; linked = λ y x q k c u p o. let b = h.linked y x q k c u p o in record { index = b.index; cell = b.cell; linked = b.linked; there = b.there; holds = b.holds }; known = h.known; frozen = h.frozen; facts = λ z k u e. let b = h.facts z k u e in record { steady = b.steady; cell = b.cell; there = b.there; holds = b.holds } })
+      let es = s.events ++ e ∷ [] in
+      after (later_with w s es s.replies s.handed) (take_safe w s.replies (record s { events = es }) (fine_with w s es s.replies s.handed h h.handed))
+
+  pub tell_event_safe : {F : Name → ℕ → Type 0} (w : World) (e : Event) → Runs L F (Fine L) w (tell e) (tell e)
+  unfolding tell
+  tell_event_safe w e s h = let es = s.events ++ e ∷ [] in done (later_with w s es s.replies s.handed) (fine_with w s es s.replies s.handed h h.handed) tt
+
+  -- what is handed to the host
+
+  hand_function_safe : {F : Name → ℕ → Type 0} (w : World) (v : Value) → Fine L w v → Runs L F Any w (hand_function v) (hand_function v)
+  hand_function_safe w v r s h = let vs = s.handed ++ v ∷ [] in done (later_with w s s.events s.replies vs) (fine_with w s s.events s.replies vs h (λ k u e. go k u (longer s.handed v k u e))) tt
+    where
+      go : (k : ℕ) (u : Value) → Longer s.handed v k u → Fine L w u
+      go k u (before e) = h.handed k u e
+      go k u (at_end i e) = subst (Fine L w) (sym e) r
+
+  mutual
+    unfolding hand hand_all hand_fields
+
+    pub hand_safe : {F : Name → ℕ → Type 0} (w : World) (v : Value) → Fine L w v → Runs L F Any w (hand v) (hand v)
+    hand_safe w Undefined h = gives_safe Undefined tt
+    hand_safe w Null h = gives_safe Null tt
+    hand_safe w NaN h = gives_safe NaN tt
+    hand_safe w TypeError h = gives_safe TypeError tt
+    hand_safe w ScriptThis h = leaves_safe leaves
+    hand_safe w (Truth b) h = gives_safe (Truth b) tt
+    hand_safe w (Num z) h = gives_safe (Num z) tt
+    hand_safe w (Text t) h = gives_safe (Text t) tt
+    hand_safe w (ItemsValue vs) h = bind (hand_all_safe w vs h) (λ v g ws q. gives_safe (ItemsValue ws) tt)
+    hand_safe w (Record fs) h = bind (hand_fields_safe w fs h) (λ v g gs q. gives_safe (Record gs) tt)
+    hand_safe w (Function f e t) h = hand_function_safe w (Function f e t) h
+    hand_safe w (Token n b) h = gives_safe (Token n b) tt
+    hand_safe w (Own k) h = gives_safe (Own k) tt
+
+    pub hand_all_safe : {F : Name → ℕ → Type 0} (w : World) (vs : Values) → Fines L w vs → Runs L F Any w (hand_all vs) (hand_all vs)
+    hand_all_safe w ∅ h = gives_safe ∅ tt
+    hand_all_safe w (v ▹ vs) h = bind (hand_safe w v h.0) (λ u g a q. bind (hand_all_safe u vs (fines_up L g vs h.1)) (λ x p ws z. gives_safe (a ▹ ws) tt))
+
+    hand_fields_safe : {F : Name → ℕ → Type 0} (w : World) (fs : Fields) → FineFields L w fs → Runs L F Any w (hand_fields fs) (hand_fields fs)
+    hand_fields_safe w nofield h = gives_safe nofield tt
+    hand_fields_safe w (field k v fs) h = bind (hand_safe w v h.0) (λ u g a q. bind (hand_fields_safe u fs (fields_up L g fs h.1)) (λ x p gs z. gives_safe (field k a gs) tt))
 
   -- reads
 
@@ -255,15 +311,11 @@ module _ {L : Links} {mark : ℕ} (P : Proper L mark) where
   write_bound_safe w x v f r None = leaves_safe leaves
   write_bound_safe w x v f r (Some k) = λ s h. write_cell_safe w x k v f r s h (cell_at s x k) refl
 
-  pub tell_safe : {F : Name → ℕ → Type 0} (w : World) (e : Event) (v : Value) → Fine L w v → Runs L F (Fine L) w (cond (is_data v) (ask e >>= λ r. gives v) leaves) (cond (is_data v) (ask e >>= λ r. gives v) leaves)
-  tell_safe {F} w e v r = go (is_data v) refl
-    where
-      go : (b : Bool) → is_data v ≡ b → Runs L F (Fine L) w (cond b (ask e >>= λ r. gives v) leaves) (cond b (ask e >>= λ r. gives v) leaves)
-      go true d = bind (ask_safe w e) (λ w' g a q. gives_safe v (data_fine L w' v d))
-      go false d = leaves_safe leaves
+  pub tell_safe : {F : Name → ℕ → Type 0} (w : World) (e : Value → Event) (v : Value) → Fine L w v → Runs L F (Fine L) w (hand v >>= λ x. ask (e x) >>= λ r. gives v) (hand v >>= λ x. ask (e x) >>= λ r. gives v)
+  tell_safe w e v r = bind (hand_safe w v r) (λ u g x q. bind (ask_safe u (e x)) (λ z p a o. gives_safe v (fine_up L p v (fine_up L g v r))))
 
   write_host_safe : {F : Name → ℕ → Type 0} (w : World) (x : List ℕ) (v : Value) → Fine L w v → Runs L F (Fine L) w (write_host x v) (write_host x v)
-  write_host_safe w x v r = if_safe _ (leaves_safe leaves) (tell_safe w (Writes x v) v r)
+  write_host_safe w x v r = if_safe _ (leaves_safe leaves) (tell_safe w (Writes x) v r)
 
   pub write_safe : {F : Name → ℕ → Type 0} (w : World) (x : Name) (v : Value) (c : Context) → Written L x → Fine L w v → Runs L F (Fine L) w (write mark x v c) (write mark x v c)
   unfolding write

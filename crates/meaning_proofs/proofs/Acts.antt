@@ -100,7 +100,7 @@ module _ {P : Pairing} where
     act_sim Index ss rs cs us q hs = shape2_sim (λ o o' k k' ho hk'. record { at = λ c d hc. bind (ho.at c d hc) (λ v w r. bind (hk'.at c d hc) (λ a b p. get_at_sim r p)) }) hs
     act_sim Call ss rs cs us q hs = shape1+_sim (λ f f' xs ys hf hx. record { at = λ c d hc. bind (hf.at c d hc) (λ v w r. bind (all_values_sim hx hc) (λ vs ws rs. call_value_sim hk r undefined rs)) }) hs
     act_sim (CallEval x) ss rs cs us q hs = record { at = λ c d hc. if_sim refl (leaves_sim leaves) (bind (read_sim mark x q hc) (λ v w r. bind (all_values_sim hs hc) (λ vs ws rs. call_value_sim hk r undefined rs))) }
-    act_sim New ss rs cs us q hs = shape1+_sim (λ m n xs ys hm hx. record { at = λ c d hc. bind (hm.at c d hc) (λ v w r. bind (all_values_sim hx hc) (λ vs ws rs. make_value_sim r rs)) }) hs
+    act_sim New ss rs cs us q hs = shape1+_sim (λ m n xs ys hm hx. record { at = λ c d hc. bind (hm.at c d hc) (λ v w r. bind (all_values_sim hx hc) (λ vs ws rs. make_value_sim hk r rs)) }) hs
     act_sim (CallDot k) ss rs cs us q hs = shape1+_sim (λ o o' xs ys ho hx. record { at = λ c d hc. bind (ho.at c d hc) (λ v w r. bind (get_sim r k) (λ f g u. bind (all_values_sim hx hc) (λ vs ws rs. call_value_sim hk u r rs))) }) hs
     act_sim CallIndex ss rs cs us q hs = shape2+_sim (λ o o' k k' xs ys ho hk' hx. record {
       at = λ c d hc. bind (ho.at c d hc) (λ v w r. bind (hk'.at c d hc) (λ a b p. bind (get_at_sim r p) (λ f g u. bind (all_values_sim hx hc) (λ vs ws rs. call_value_sim hk u r rs))));

@@ -4,7 +4,7 @@ use Rattle.std.proofs.lemmas.Bool.{true≢false, false≢true, and_parts}
 use Rattle.swc_ast.specs.Labels.{is_block, is_params, is_body}
 use Rattle.swc_ast.specs.declared.Span.{Span}
 use Rattle.swc_ast.specs.Tree.{Name, Text, Label, Fn, Arrow, Method, FnDecl, ExportDefaultFn, Params, Body, Param, Tree, node, Forest, ε, ◌⊳◌, label_of}
-use Rattle.swc_ast.specs.Value.{Env, Value, Undefined, Null, NaN, TypeError, ScriptThis, Truth, Num, Text as TextValue, Items, Record, Function, Token, Values, Done, Run, Context, Meaning}
+use Rattle.swc_ast.specs.Value.{Env, Value, Undefined, Null, NaN, TypeError, ScriptThis, Truth, Num, Text as TextValue, Items, Record, Function, Token, Own, Values, Done, Run, Context, Meaning}
 use Rattle.swc_ast.specs.Scope.{has_name, param_name, param_names, body_declares}
 use Rattle.swc_ast.specs.Meaning.{leaves, eval, gives}
 use Rattle.swc_ast.specs.Call.{first_value, rest_values, is_undefined, param_value, bind_params, statements_of, in_env, run_body, run_function, run_parts, run_children, behind_key, invoke, call_function, call_at}
@@ -65,6 +65,7 @@ undefined_is (Items vs) e = absurd (false≢true e)
 undefined_is (Record fs) e = absurd (false≢true e)
 undefined_is (Function f e t) q = absurd (false≢true q)
 undefined_is (Token n b) e = absurd (false≢true e)
+undefined_is (Own k) e = absurd (false≢true e)
 
 -- parts that are not well formed
 

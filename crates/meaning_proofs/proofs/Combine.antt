@@ -4,6 +4,9 @@ use Rattle.swc_ast.specs.Value.{Jump, Outcome, Run, and_then}
 use Rattle.swc_ast.specs.Meaning.{◌>>=◌, gives, leaves, jumps, throws_type_error, in_core}
 use Rattle.meaning_proofs.proofs.Relation.{Pairing, Maybe, neither, both, J, Sim, done, jump, outside, cut, Ran, thrown, type_error}
 
+abbrev pub Eq : {A : Type 0} → A → A → Type 0
+Eq a b = a ≡ b
+
 module _ {P : Pairing} {A : Type 0} {RA : A → A → Type 0} where
   pub gives_sim : {a b : A} → RA a b → Ran P RA (gives a) (gives b)
   gives_sim r = λ s t h. done r h

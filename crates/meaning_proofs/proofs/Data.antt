@@ -1,8 +1,8 @@
 -- Values that are related and hold no function of the program are equal.
 use Rattle.std.proofs.Common.{◌≡◌, true, ◌&&◌, refl, ap, ap₂}
 use Rattle.std.proofs.lemmas.Bool.{false≢true, and_parts}
-use Rattle.swc_ast.specs.Value.{Value, Undefined, Null, NaN, TypeError, ScriptThis, Truth, Num, Text, Items, Record, Function, Token, Values, ∅, ◌▹◌, Fields, nofield, field, is_data, all_data, fields_data}
-use Rattle.meaning_proofs.proofs.Relation.{Pairing, V, Vs, Fs, undefined, null, nan, type_error, script_this, truth, num, text, items, entries, function, token, no_value, value, no_entry, entry}
+use Rattle.swc_ast.specs.Value.{Value, Undefined, Null, NaN, TypeError, ScriptThis, Truth, Num, Text, Items, Record, Function, Token, Own, Values, ∅, ◌▹◌, Fields, nofield, field, is_data, all_data, fields_data}
+use Rattle.meaning_proofs.proofs.Relation.{Pairing, V, Vs, Fs, undefined, null, nan, type_error, script_this, truth, num, text, items, entries, function, token, own, no_value, value, no_entry, entry}
 
 module _ {P : Pairing} where
   -- a value without functions is related to itself
@@ -20,6 +20,7 @@ module _ {P : Pairing} where
     data_same (Record fs) e = entries (fields_data_same fs e)
     data_same (Function f d t) e = absurd (false≢true e)
     data_same (Token n b) e = token n b
+    data_same (Own k) e = own k
 
     pub all_data_same : (vs : Values) → all_data vs ≡ true → Vs P vs vs
     all_data_same ∅ e = no_value
@@ -43,6 +44,7 @@ module _ {P : Pairing} where
     data_equal (entries r) e = ap Record (fields_data_equal r e)
     data_equal (function k r u) e = absurd (false≢true e)
     data_equal (token n b) e = refl
+    data_equal (own k) e = refl
 
     pub all_data_equal : {vs ws : Values} → Vs P vs ws → all_data vs ≡ true → vs ≡ ws
     all_data_equal no_value e = refl
@@ -66,6 +68,7 @@ module _ {P : Pairing} where
     is_data_same (entries r) = fields_is_data_same r
     is_data_same (function k r u) = refl
     is_data_same (token n b) = refl
+    is_data_same (own k) = refl
 
     pub all_is_data_same : {vs ws : Values} → Vs P vs ws → all_data vs ≡ all_data ws
     all_is_data_same no_value = refl

@@ -24,7 +24,7 @@ module _ {N : Names} where
   -- a write to a dropped name is no change that counts, where a guarded name takes what it may
   pub off_set : (x : Name) (k : ℕ) (c : Cell) (v : Value) → N.dropped x ≡ true → Puts N x v → (s : State) → Off N (set_cell s x k (record c { held = Some v })) s
   off_set x k c v d q s = record {
-    apart = record { events = refl; replies = refl; store = λ y keeps l. ap (λ b. cond b (slice_set (s.store y) k (record c { held = Some v })) (s.store y)) (other_name' N.dropped x y d keeps); loosely = λ y keeps l. subst (λ b. AlikeCells (N.slack y) (cond b (slice_set (s.store y) k (record c { held = Some v })) (s.store y)) (s.store y)) (sym (other_name' N.dropped x y d keeps)) (alike_itself (s.store y)) };
+    apart = record { events = refl; replies = refl; handed = refl; natives = refl; store = λ y keeps l. ap (λ b. cond b (slice_set (s.store y) k (record c { held = Some v })) (s.store y)) (other_name' N.dropped x y d keeps); loosely = λ y keeps l. subst (λ b. AlikeCells (N.slack y) (cond b (slice_set (s.store y) k (record c { held = Some v })) (s.store y)) (s.store y)) (sym (other_name' N.dropped x y d keeps)) (alike_itself (s.store y)) };
     guards = λ g. record { at = λ y h. guard_set N s x y k c v q h (g.at y h) };
   }
 

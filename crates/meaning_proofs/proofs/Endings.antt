@@ -1,12 +1,12 @@
 -- Related runs show the same.
-use Rattle.std.proofs.Common.{◌≡◌, Bool, true, false, List, [], ◌∷◌, refl, sym, ap, subst, ◌∙◌, if◌then◌else◌}
+use Rattle.std.proofs.Common.{◌≡◌, Bool, true, false, List, [], ◌∷◌, refl, sym, ap, ◌∙◌}
 use Rattle.swc_ast.specs.Tree.{Text}
-use Rattle.swc_ast.specs.Value.{Value, is_data, Event, Load, Reads, TypeOf, Writes, Gets, Sets, Calls, Makes, Thrown, State, Outcome, Jumps}
-use Rattle.swc_ast.specs.Run.{Ending, Threw, Observation, Observed, Sees, LeftCore, Unfinished, ends, without_loads, counted}
+use Rattle.swc_ast.specs.Value.{Value, Event, Load, Reads, TypeOf, Writes, Gets, Sets, Calls, Makes, Returns, Fails, Outcome}
+use Rattle.swc_ast.specs.Run.{Ending, Threw, Observation, Observed, Sees, LeftCore, Unfinished, threw, ends, without_loads, counted}
 use Rattle.meaning_proofs.specs.Sameness.{counting, counted_but, ignoring}
-use Rattle.meaning_proofs.proofs.Relation.{Pairing, S, broken, continued, returned, thrown, Sim, done, jump, outside, cut}
-use Rattle.meaning_proofs.proofs.Data.{data_equal, is_data_same}
-use Rattle.meaning_proofs.proofs.Parts.{Eq}
+use Rattle.meaning_proofs.proofs.Relation.{Pairing, broken, continued, returned, thrown, Sim, done, jump, outside, cut}
+use Rattle.meaning_proofs.proofs.Combine.{Eq}
+use Rattle.meaning_proofs.proofs.Stores.{hand_sim}
 
 -- where the first is seen, so is the second, and the same
 pub data Follows (ignores : Text → Bool) : Observed → Observed → Type 0 where
@@ -32,6 +32,8 @@ counting_all (Gets v t ∷ es) = ap (λ es. Gets v t ∷ es) (counting_all es)
 counting_all (Sets v t w ∷ es) = ap (λ es. Sets v t w ∷ es) (counting_all es)
 counting_all (Calls f t vs ∷ es) = ap (λ es. Calls f t vs ∷ es) (counting_all es)
 counting_all (Makes f vs ∷ es) = ap (λ es. Makes f vs ∷ es) (counting_all es)
+counting_all (Returns v ∷ es) = ap (λ es. Returns v ∷ es) (counting_all es)
+counting_all (Fails v ∷ es) = ap (λ es. Fails v ∷ es) (counting_all es)
 
 counting_none : (es : List Event) → counting (ignoring false) es ≡ without_loads es
 counting_none [] = refl
@@ -43,6 +45,8 @@ counting_none (Gets v t ∷ es) = ap (λ es. Gets v t ∷ es) (counting_none es)
 counting_none (Sets v t w ∷ es) = ap (λ es. Sets v t w ∷ es) (counting_none es)
 counting_none (Calls f t vs ∷ es) = ap (λ es. Calls f t vs ∷ es) (counting_none es)
 counting_none (Makes f vs ∷ es) = ap (λ es. Makes f vs ∷ es) (counting_none es)
+counting_none (Returns v ∷ es) = ap (λ es. Returns v ∷ es) (counting_none es)
+counting_none (Fails v ∷ es) = ap (λ es. Fails v ∷ es) (counting_none es)
 
 counted_is : (loads : Bool) (o : Observation) → counted_but (ignoring loads) o ≡ counted loads o
 counted_is true o = λ i. record { events = counting_all o.events i; ending = o.ending }
@@ -52,15 +56,15 @@ pub as_counted : (loads : Bool) (p o : Observation) → counted_but (ignoring lo
 as_counted loads p o e = sym (counted_is loads p) ∙ e ∙ counted_is loads o
 
 module _ {P : Pairing} where
-  ends_if : (b : Bool) (v w : Value) {s t : State} → (b ≡ true → v ≡ w) → S P s t
-      → Follows P.ignores (if b then Sees (record { events = s.events; ending = Threw v }) else LeftCore) (if b then Sees (record { events = t.events; ending = Threw w }) else LeftCore)
-  ends_if true v w {s} {t} e h = sees (counted_same P.ignores s.events t.events (Threw v) (Threw w) h.events (ap Threw (e refl)))
-  ends_if false v w e h = left_core _
+  threw_sim : {o p : Outcome Value} → Sim P Eq o p → Follows P.ignores (threw o) (threw p)
+  threw_sim (done {a} {b} {s} {t} e h) = sees (counted_same P.ignores s.events t.events (Threw a) (Threw b) h.events (ap Threw e))
+  threw_sim (jump r h) = left_core _
+  threw_sim (outside o) = left_core _
+  threw_sim (cut o) = left_core _
 
   pub ends_sim : {o p : Outcome Ending} → Sim P Eq o p → Follows P.ignores (ends o) (ends p)
   ends_sim (done {a} {b} {s} {t} e h) = sees (counted_same P.ignores s.events t.events a b h.events e)
-  ends_sim (jump {s = s} {t} (thrown {v} {w} r) h) =
-      subst (λ b. Follows P.ignores (ends (Jumps (Thrown v) s)) (if b then Sees (record { events = t.events; ending = Threw w }) else LeftCore)) (is_data_same r) (ends_if (is_data v) v w (data_equal r) h)
+  ends_sim (jump {s = s} {t} (thrown r) h) = threw_sim (hand_sim r s t h)
   ends_sim (jump (broken l) h) = left_core _
   ends_sim (jump (continued l) h) = left_core _
   ends_sim (jump (returned r) h) = left_core _

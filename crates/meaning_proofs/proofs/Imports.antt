@@ -154,6 +154,8 @@ module _ {P : Pairing} where
   set_both x v {s} {t} e g h = record {
     events = h.events;
     replies = h.replies;
+    handed = h.handed;
+    natives = h.natives;
     cells = λ y keeps. cond_each (same_name x y) (set_each (h.cells y keeps) 0 (same_cell e)) (h.cells y keeps);
     guards = record { at = λ y q. subst (λ b. Guarded (P.guard y) (cond b (slice_set (s.store y) 0 (record { writable = false; held = Some v })) (s.store y))) (sym (g y q)) (h.guards.at y q) };
   }
@@ -162,6 +164,8 @@ module _ {P : Pairing} where
   set_left x v {s} {t} g h = record {
     events = h.events;
     replies = h.replies;
+    handed = h.handed;
+    natives = h.natives;
     cells = λ y keeps. subst (λ b. Each (SameCell P y) (cond b (slice_set (s.store y) 0 (record { writable = false; held = Some v })) (s.store y)) (t.store y)) (sym (g y (is_kept keeps))) (h.cells y keeps);
     guards = record { at = λ y q. subst (λ b. Guarded (P.guard y) (cond b (slice_set (s.store y) 0 (record { writable = false; held = Some v })) (s.store y))) (sym (g y (is_guarded q))) (h.guards.at y q) };
   }

@@ -46,7 +46,7 @@ alike_trans (one_any e a) (one_alike v j b) = one_any e (alike_trans a b)
 alike_trans (one_any e a) (one_any f b) = one_any e (alike_trans a b)
 
 pub apart_itself : {N : Names} (s : State) → Apart N s s
-apart_itself s = record { events = refl; replies = refl; store = λ x keeps l. refl; loosely = λ x keeps l. alike_itself (s.store x) }
+apart_itself s = record { events = refl; replies = refl; handed = refl; natives = refl; store = λ x keeps l. refl; loosely = λ x keeps l. alike_itself (s.store x) }
 
 pub off_itself : {N : Names} (s : State) → Off N s s
 off_itself s = record { apart = apart_itself s; guards = λ g. g }
@@ -56,6 +56,8 @@ off_trans h i = record {
   apart = record {
     events = h.apart.events ∙ i.apart.events;
     replies = h.apart.replies ∙ i.apart.replies;
+    handed = h.apart.handed ∙ i.apart.handed;
+    natives = h.apart.natives ∙ i.apart.natives;
     store = λ x keeps l. h.apart.store x keeps l ∙ i.apart.store x keeps l;
     loosely = λ x keeps l. alike_trans (h.apart.loosely x keeps l) (i.apart.loosely x keeps l);
   };

@@ -7,7 +7,7 @@ use Rattle.meaning_proofs.proofs.Relation.{Pairing, V, undefined, S, C, J, broke
 use Rattle.meaning_proofs.proofs.Combine.{gives_sim, if_sim, bind}
 use Rattle.meaning_proofs.proofs.Prims.{same_truthy}
 use Rattle.meaning_proofs.proofs.Scopes.{plain_sim}
-use Rattle.meaning_proofs.proofs.Parts.{Eq}
+use Rattle.meaning_proofs.proofs.Combine.{Eq}
 
 module _ {P : Pairing} where
   -- loops

@@ -1,23 +1,20 @@
 -- The parts that the meanings of nodes are made of: members, calls, lists and operators.
-use Rattle.std.proofs.Common.{◌≡◌, ℕ, pos, Bool, true, false, not, ◌&&◌, List, [], ◌∷◌, ◌++◌, Option, Some, None, refl, ap, ap₂, subst, cond}
+use Rattle.std.proofs.Common.{◌≡◌, ℕ, zero, suc, length, pos, Bool, true, false, not, ◌&&◌, List, [], ◌∷◌, ◌++◌, Option, Some, None, refl, ap, ap₂, subst, cond, bytes_eq, codes, if◌then◌else◌}
 use Rattle.std.proofs.lemmas.Bool.{and_parts}
 use Rattle.swc_ast.specs.Tree.{ItemKind, Plain, Spread, Hole}
 use Rattle.swc_ast.specs.declared.UpdateOp.{UpdateOp}
 use Rattle.swc_ast.specs.declared.BinaryOp.{BinaryOp}
 use Rattle.swc_ast.specs.declared.BinaryOp.TheVariants.{LogicalAnd, LogicalOr, NullishCoalescing}
-use Rattle.swc_ast.specs.Operators.{prim, number_value}
-use Rattle.swc_ast.specs.Value.{Value, Token, Values, Fields, is_data, all_data, Gets, Sets, Calls, Makes, Run, Context, Meaning}
-use Rattle.swc_ast.specs.Meaning.{leaves, get, put, get_at, put_at, read_this, Caller, call_value, make_value, all_values, in_turn, run_all, spread_items, item_values, array_items, template_text, merged, object_fields, key_text, one_field, compute, short_circuits, shortened, operate, assign, update, choice, bad_shape}
-use Rattle.meaning_proofs.proofs.Relation.{Pairing, Each, none, more, Maybe, neither, both, V, Vs, Fs, undefined, null, script_this, num, items, entries, function, token, no_value, value, no_entry, entry, C, Ran, M}
-use Rattle.meaning_proofs.proofs.Combine.{gives_sim, leaves_sim, type_error_sim, if_sim, if_when, in_core_sim, bind}
-use Rattle.meaning_proofs.proofs.Data.{data_same, data_equal, all_data_equal, is_data_same, all_is_data_same}
+use Rattle.swc_ast.specs.Operators.{prim, number_value, index_of, value_at}
+use Rattle.swc_ast.specs.Value.{Value, Token, Values, Fields, is_data, all_data, Event, Gets, Sets, Calls, Makes, Returns, Fails, Reply, Gives, Throws, Back, Natives, Lists, Outcome, Run, Context, Meaning}
+use Rattle.swc_ast.specs.Meaning.{leaves, in_core, changing_keys, by_item, by_index, inherits, datum, read_member, get, put, get_at, put_at, read_this, Caller, call_some, call_handed, told, reply_to_call, replies_to_call, ask_call, call_value, make_value, all_values, in_turn, run_all, spread_items, item_values, array_items, template_text, merged, object_fields, key_text, one_field, compute, short_circuits, shortened, operate, assign, update, choice, bad_shape}
+use Rattle.meaning_proofs.proofs.Relation.{Pairing, Each, none, more, Maybe, neither, both, V, Vs, Fs, undefined, null, script_this, num, items, entries, function, token, own, no_value, value, no_entry, entry, C, broken, continued, returned, thrown, Sim, done, jump, outside, cut, Ran, M}
+use Rattle.meaning_proofs.proofs.Combine.{Eq, gives_sim, leaves_sim, type_error_sim, if_sim, in_core_sim, and_then_sim, bind}
+use Rattle.meaning_proofs.proofs.Data.{data_same, all_data_same}
 use Rattle.meaning_proofs.proofs.Prims.{same_nullish, same_truthy, same_text, same_number, same_binary}
 use Rattle.meaning_proofs.proofs.Results.{binary_data, numeric_data}
-use Rattle.meaning_proofs.proofs.Members.{own_property_sim, maybe_same, append_sim, put_fields_sim}
-use Rattle.meaning_proofs.proofs.Stores.{ask_sim, ask_same, tell_sim}
-
-abbrev pub Eq : {A : Type 0} → A → A → Type 0
-Eq a b = a ≡ b
+use Rattle.meaning_proofs.proofs.Members.{own_property_sim, value_at_sim, maybe_same, append_sim, put_fields_sim}
+use Rattle.meaning_proofs.proofs.Stores.{ask_sim, tell_sim, tell_same, get_each, with_replies, asked, take_sim, hand_sim, hand_all_sim}
 
 pub same_option : {A : Type 0} {o p : Option A} → o ≡ p → Maybe Eq o p
 same_option {A} {o} e = subst (λ p. Maybe Eq o p) e (at o)
@@ -40,12 +37,42 @@ module _ {P : Pairing} where
   pub with_text : {A : Type 0} {RA : A → A → Type 0} {k l : List ℕ → Run A} → ((t : List ℕ) → Ran P RA (k t) (l t)) → (t u : List ℕ) → Eq t u → Ran P RA (k t) (l u)
   with_text {RA = RA} {k} {l} h t u e = subst (λ u. Ran P RA (k t) (l u)) e (h t)
 
+  by_item_same : (n : Natives) {o p : Option Value} → Maybe (V P) o p → by_item n o ≡ by_item n p
+  by_item_same n neither = refl
+  by_item_same n (both r) = refl
+
+  by_index_same : (k : List ℕ) {vs ws : Values} → Vs P vs ws → (o : Option ℕ) → by_index Lists changing_keys k (value_at vs) o ≡ by_index Lists changing_keys k (value_at ws) o
+  by_index_same k r None = refl
+  by_index_same k r (Some i) = by_item_same Lists (value_at_sim r i)
+
+  same_inherits : {v w : Value} → V P v w → (k : List ℕ) → inherits v k ≡ inherits w k
+  same_inherits (items r) k = ap (λ (o : Option Natives). if bytes_eq k (codes "length") then None else o) (by_index_same k r (index_of k))
+  same_inherits _ k = refl
+
+  datum_sim : (v : Value) → Maybe (V P) (datum v) (datum v)
+  datum_sim v = go (is_data v) refl
+    where
+      go : (b : Bool) → is_data v ≡ b → Maybe (V P) (cond b (Some v) None) (cond b (Some v) None)
+      go true e = both (data_same v e)
+      go false e = neither
+
+  -- what is inherited from the host is the same on both sides
+  native_sim : (n : Natives) (k : List ℕ) → Ran P (V P) (λ s. in_core (datum (s.natives n k)) s) (λ s. in_core (datum (s.natives n k)) s)
+  native_sim n k s t h = subst (λ ns. Sim P (V P) (in_core (datum (s.natives n k)) s) (in_core (datum (ns n k)) t)) h.natives (in_core_sim (datum_sim (s.natives n k)) s t h)
+
+  member_sim : (o p : Option Natives) → o ≡ p → {v w : Value} → V P v w → (k : List ℕ) → Ran P (V P) (read_member o v k) (read_member p w k)
+  member_sim o p e {v} {w} r k = subst (λ p. Ran P (V P) (read_member o v k) (read_member p w k)) e (go o)
+    where
+      go : (o : Option Natives) → Ran P (V P) (read_member o v k) (read_member o w k)
+      go None = in_core_sim (own_property_sim r k)
+      go (Some n) = native_sim n k
+
   pub get_sim : {v w : Value} → V P v w → (k : List ℕ) → Ran P (V P) (get v k) (get w k)
   unfolding get
   get_sim (token n b) k = ask_sim (Gets (Token n b) k)
   get_sim undefined k = type_error_sim
   get_sim null k = type_error_sim
-  get_sim r k = in_core_sim (own_property_sim r k)
+  get_sim r k = member_sim _ _ (same_inherits r k) r k
 
   pub put_sim : {o p v w : Value} → V P o p → (k : List ℕ) → V P v w → Ran P (V P) (put o k v) (put p k w)
   unfolding put
@@ -69,20 +96,61 @@ module _ {P : Pairing} where
 
   -- calls
 
+  call_some_sim : {call call' : Caller} → K P call call' → {o p : Option Value} → Maybe (V P) o p → {t u : Value} {vs ws : Values} → V P t u → Vs P vs ws → Ran P (V P) (call_some call o t vs) (call_some call' p u ws)
+  call_some_sim hk neither q rs = leaves_sim leaves
+  call_some_sim hk (both r) q rs = hk.by r q rs
+
+  pub call_handed_sim : {call call' : Caller} → K P call call' → (k : ℕ) {t u : Value} {vs ws : Values} → V P t u → Vs P vs ws → Ran P (V P) (call_handed call k t vs) (call_handed call' k u ws)
+  unfolding call_handed
+  call_handed_sim hk k q rs = λ s t h. call_some_sim hk (get_each h.handed k) q rs s t h
+
+  -- the host calls functions that were handed to it
+
+  told_sim : {o p : Outcome Value} → Sim P (V P) o p → Sim P (V P) (told o) (told p)
+  told_sim (done r h) = and_then_sim (hand_sim r _ _ h) (λ a b e. tell_same (ap Returns e))
+  told_sim (jump (thrown r) h) = and_then_sim (hand_sim r _ _ h) (λ a b e. tell_same (ap Fails e))
+  told_sim (jump (broken l) h) = outside _
+  told_sim (jump (continued l) h) = outside _
+  told_sim (jump (returned r) h) = outside _
+  told_sim (outside o) = outside _
+  told_sim (cut o) = cut _
+
+  call_back_if : {call call' : Caller} → K P call call' → (k : ℕ) (t : Value) (vs : Values) (b : Bool) → (is_data t && all_data vs) ≡ b
+      → Ran P (V P) (if b then (λ s. told (call_handed call k t vs s)) else leaves) (if b then (λ s. told (call_handed call' k t vs s)) else leaves)
+  call_back_if hk k t vs true e = λ s u h. let p = and_parts (is_data t) (all_data vs) e in told_sim (call_handed_sim hk k (data_same t p.0) (all_data_same vs p.1) s u h)
+  call_back_if hk k t vs false e = leaves_sim leaves
+
+  reply_sim : {call call' : Caller} → K P call call' → {next next' : Run Value} → Ran P (V P) next next' → (rs : List Reply) → Ran P (V P) (reply_to_call call next rs) (reply_to_call call' next' rs)
+  reply_sim hk hn [] = λ s t h. take_sim [] h
+  reply_sim hk hn (Gives v ∷ rs) = λ s t h. take_sim (Gives v ∷ rs) h
+  reply_sim hk hn (Throws v ∷ rs) = λ s t h. take_sim (Throws v ∷ rs) h
+  reply_sim hk hn (Back k this args ∷ rs) = λ s t h. and_then_sim (call_back_if hk k this args (is_data this && all_data args) refl _ _ (with_replies rs h)) (λ a b q. hn)
+
+  replies_sim : {call call' : Caller} → K P call call' → (n : ℕ) → Ran P (V P) (replies_to_call call n) (replies_to_call call' n)
+  unfolding replies_to_call
+  replies_sim hk zero = λ s t h. cut _
+  replies_sim {call} {call'} hk (suc n) = λ s t h. subst (λ rs. Sim P (V P) (reply_to_call call (replies_to_call call n) s.replies s) (reply_to_call call' (replies_to_call call' n) rs t)) h.replies (reply_sim hk (replies_sim hk n) s.replies s t h)
+
+  ask_call_sim : {call call' : Caller} → K P call call' → (e : Event) → Ran P (V P) (ask_call call e) (ask_call call' e)
+  unfolding ask_call
+  ask_call_sim {call} {call'} hk e = λ s t h. subst (λ n. Sim P (V P) (replies_to_call call (length s.replies) (record s { events = s.events ++ e ∷ [] })) (replies_to_call call' n (record t { events = t.events ++ e ∷ [] }))) (ap length h.replies) (replies_sim hk (length s.replies) _ _ (asked e h))
+
+  ask_call_same : {call call' : Caller} → K P call call' → {e f : Event} → e ≡ f → Ran P (V P) (ask_call call e) (ask_call call' f)
+  ask_call_same {call} {call'} hk {e} p = subst (λ f. Ran P (V P) (ask_call call e) (ask_call call' f)) p (ask_call_sim hk e)
+
   pub call_value_sim : {call call' : Caller} {f g t u : Value} {vs ws : Values} → K P call call' → V P f g → V P t u → Vs P vs ws → Ran P (V P) (call_value call f t vs) (call_value call' g u ws)
   unfolding call_value
   call_value_sim hk (function k e r) q rs = hk.by (function k e r) q rs
-  call_value_sim {t = t} {vs = vs} hk (token n b) q rs =
-      if_when (ap₂ ◌&&◌ (is_data_same q) (all_is_data_same rs))
-      (λ d. let p = and_parts (is_data t) (all_data vs) d in ask_same (ap₂ (Calls (Token n b)) (data_equal q p.0) (all_data_equal rs p.1)))
-      (λ d. leaves_sim leaves)
+  call_value_sim hk (token n b) q rs = bind (hand_sim q) (λ t u e. bind (hand_all_sim rs) (λ vs ws d. ask_call_same hk (ap₂ (Calls (Token n b)) e d)))
+  call_value_sim hk (own k) q rs = call_handed_sim hk k q rs
   call_value_sim hk _ q rs = type_error_sim
 
-  pub make_value_sim : {f g : Value} {vs ws : Values} → V P f g → Vs P vs ws → Ran P (V P) (make_value f vs) (make_value g ws)
+  pub make_value_sim : {call call' : Caller} → K P call call' → {f g : Value} {vs ws : Values} → V P f g → Vs P vs ws → Ran P (V P) (make_value call f vs) (make_value call' g ws)
   unfolding make_value
-  make_value_sim (token n b) rs = if_when (all_is_data_same rs) (λ d. ask_same (ap (Makes (Token n b)) (all_data_equal rs d))) (λ d. leaves_sim leaves)
-  make_value_sim (function k e r) rs = leaves_sim leaves
-  make_value_sim _ rs = type_error_sim
+  make_value_sim hk (token n b) rs = bind (hand_all_sim rs) (λ vs ws d. ask_call_same hk (ap (Makes (Token n b)) d))
+  make_value_sim hk (function k e r) rs = leaves_sim leaves
+  make_value_sim hk (own k) rs = leaves_sim leaves
+  make_value_sim hk _ rs = type_error_sim
 
   -- lists of meanings
 

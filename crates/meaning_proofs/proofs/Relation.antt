@@ -2,7 +2,7 @@
 -- rewritten and for names that were dropped.
 use Rattle.std.proofs.Common.{◌≡◌, ℕ, ℤ, Bool, true, false, List, [], ◌∷◌, Option, Some, None}
 use Rattle.swc_ast.specs.Tree.{Name, Text as SourceText, Tree}
-use Rattle.swc_ast.specs.Value.{Env, Value, Undefined, Null, NaN, TypeError, ScriptThis, Truth, Num, Text, Items, Record, Function, Token, Values, ∅, ◌▹◌, Fields, nofield, field, Cell, State, Jump, Broken, Continued, Returned, Thrown, Outcome, Done, Jumps, Outside, Cut, Run, Context, Meaning}
+use Rattle.swc_ast.specs.Value.{Env, Value, Undefined, Null, NaN, TypeError, ScriptThis, Truth, Num, Text, Items, Record, Function, Token, Own, Values, ∅, ◌▹◌, Fields, nofield, field, Cell, State, Jump, Broken, Continued, Returned, Thrown, Outcome, Done, Jumps, Outside, Cut, Run, Context, Meaning}
 use Rattle.swc_ast.specs.Scope.{Declaration, Lexical, Function as DeclaredFunction}
 use Rattle.meaning_proofs.specs.Names.{Names, Guards}
 use Rattle.meaning_proofs.specs.Sameness.{counting}
@@ -42,6 +42,7 @@ mutual
     entries : {fs gs : Fields} → Fs P fs gs → V P (Record fs) (Record gs)
     function : {f g : Tree} {e d : Env} {t u : Value} → P.Keeps f g → SameEnv P e d → V P t u → V P (Function f e t) (Function g d u)
     token : (n : ℕ) (b : Bool) → V P (Token n b) (Token n b)
+    own : (k : ℕ) → V P (Own k) (Own k)
 
   pub data Vs (P : Pairing) : Values → Values → Type 0 where
     no_value : Vs P ∅ ∅
@@ -63,6 +64,8 @@ pub data SameCell (P : Pairing) (x : Name) (c d : Cell) : Type 0 where
 pub record S (P : Pairing) (s t : State) : Type 0 where
   pub events : counting P.ignores s.events ≡ counting P.ignores t.events
   pub replies : s.replies ≡ t.replies
+  pub handed : Each (V P) s.handed t.handed
+  pub natives : s.natives ≡ t.natives
   pub cells : (x : Name) → P.dropped x ≡ false → Each (SameCell P x) (s.store x) (t.store x)
   pub guards : Guards P.names s
 

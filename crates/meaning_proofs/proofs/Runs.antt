@@ -1,7 +1,7 @@
 -- Rewritten modules and scripts do the same.
 use Rattle.std.proofs.Common.{◌≡◌, ℕ, Bool, true, false, ◌||◌, List, [], ◌∷◌, Option, Some, None, refl, sym, ap, ap₂, subst, cond, ◌∙◌, if◌then◌else◌}
 use Rattle.std.proofs.lemmas.Bool.{false≢true}
-use Rattle.swc_ast.specs.Tree.{Name, Text, Tree, Forest}
+use Rattle.swc_ast.specs.Tree.{Name, Text, Tree, Forest, ε}
 use Rattle.swc_ast.specs.Value.{Env, Value, Undefined, Event, Load, Cell}
 use Rattle.swc_ast.specs.Scope.{found, is_found, body_declares, module_binds}
 use Rattle.swc_ast.specs.Meaning.{eval}
@@ -13,7 +13,7 @@ use Rattle.meaning_proofs.specs.Sameness.{counting, heeded, ignoring, SameIn}
 use Rattle.meaning_proofs.specs.Roles.{module_items, SameSlack}
 use Rattle.meaning_proofs.specs.Rewrites.{Listed, listed, Related, modules, scripts}
 use Rattle.meaning_proofs.proofs.Relation.{Pairing, none, Maybe, neither, both, SameEnv, V, undefined, script_this, same_held, SameCell, alike, S, C}
-use Rattle.meaning_proofs.proofs.Combine.{gives_sim, bind}
+use Rattle.meaning_proofs.proofs.Combine.{bind}
 use Rattle.meaning_proofs.proofs.Scopes.{Born, in_scope_sim}
 use Rattle.meaning_proofs.proofs.Finds.{is_none}
 use Rattle.meaning_proofs.proofs.Declared.{pairing, ListRole, listed_role}
@@ -21,9 +21,9 @@ use Rattle.meaning_proofs.proofs.Trees.{listed_sim}
 use Rattle.meaning_proofs.proofs.Bodies.{declares_same, cells_same, cells_born}
 use Rattle.meaning_proofs.proofs.Calls.{call_at_sim}
 use Rattle.meaning_proofs.proofs.Endings.{Follows, left_core, seen_of, as_counted, ends_sim}
-use Rattle.meaning_proofs.proofs.Imports.{SameImports, imports_of_items, exports_of_items, sources_of_items, imports_are, same_found, same_is_found, not_found, still_data, found_is_data}
+use Rattle.meaning_proofs.proofs.Imports.{SameImports, no_imports, imports_of_items, exports_of_items, sources_of_items, imports_are, same_found, same_is_found, not_found, still_data, found_is_data}
 use Rattle.meaning_proofs.proofs.Items.{same_imports, same_exports}
-use Rattle.meaning_proofs.proofs.Exports.{exports_kept, ExportsKept, ImportsAlike, finish_sim}
+use Rattle.meaning_proofs.proofs.Exports.{exports_kept, ExportsKept, no_export, ImportsAlike, finish_sim}
 
 heeded_if : (b : Bool) (t : Text) (es : List Event) (ts : List Text) → es ≡ load_events ts → cond b es (Load t ∷ es) ≡ load_events (cond b ts (t ∷ ts))
 heeded_if true t es ts e = e
@@ -40,7 +40,7 @@ import_born g (Some v) q e h = cc
 
 module _ {P : Pairing} where
   start_sim : (w : World) (ts us : List Text) → heeded P.ignores ts ≡ heeded P.ignores us → S P (start ts w) (start us w)
-  start_sim w ts us h = record { events = counting_loads P.ignores ts ∙ ap load_events h ∙ sym (counting_loads P.ignores us); replies = refl; cells = λ x keeps. none; guards = record { at = λ x g. no_cell } }
+  start_sim w ts us h = record { events = counting_loads P.ignores ts ∙ ap load_events h ∙ sym (counting_loads P.ignores us); replies = refl; handed = none; natives = refl; cells = λ x keeps. none; guards = record { at = λ x g. no_cell } }
 
   first_context : {v : Value} → V P v v → C P (in_env (λ x. None) v) (in_env (λ x. None) v)
   first_context r = record { env = record { at = λ x keeps. refl }; this = r; labels = refl }
@@ -79,12 +79,12 @@ if_all_data false c g h = left_core _
 
 module _ {N : Names} {mark : ℕ} {does : Evaluation} {ignores : Text → Bool} where
   -- scripts
-  script_follows : (n d : ℕ) (w : World) {ts us : Forest} → Listed N mark does ts us → SameSlack N ts us → Follows ignores (run_statements (does n) d w ts) (run_statements (eval mark n) d w us)
+  script_follows : (n d : ℕ) (w : World) (calls : List LaterCall) {ts us : Forest} → Listed N mark does ts us → SameSlack N ts us → Follows ignores (run_statements (does n) d w calls ts) (run_statements (eval mark n) d w calls us)
   unfolding run_statements
-  script_follows n d w {ts} {us} h sl =
+  script_follows n d w calls {ts} {us} h sl =
       let r : ListRole (pairing N mark does ignores) ts us = listed_role h in
       ends_sim {P = pairing N mark does ignores} (in_scope_sim (λ x keeps. declares_same r x keeps (sl.binds x)) (cells_same r undefined) (λ e x g b. cells_born r Undefined e x g b)
-      (λ c c' hc. bind ((listed_sim n d (call_at_sim n d) h).at c c' hc) (λ v v' q. gives_sim refl))
+      (λ c c' hc. bind ((listed_sim n d (call_at_sim n d) h).at c c' hc) (λ v v' q. finish_sim (call_at_sim n d) w {ts = ε} {us = ε} (record { at = λ k. no_imports }) refl no_export calls hc))
       (first_context script_this) _ _ (start_sim w [] [] refl))
 
   -- modules
@@ -100,7 +100,7 @@ module _ {N : Names} {mark : ℕ} {does : Evaluation} {ignores : Text → Bool} 
   -- What is seen of the first is seen of the second, where loads count or not.
   pub follows : {t u : Tree} → Related N mark does ignores t u → (n d : ℕ) (w : World) (calls : List LaterCall) → Follows ignores (observe_by (does n) d w calls t) (observe_by (eval mark n) d w calls u)
   unfolding observe_by
-  follows (scripts h sl) n d w calls = script_follows n d w h sl
+  follows (scripts h sl) n d w calls = script_follows n d w calls h sl
   follows (modules {ts = ts} {us} {vs} {ws} a f h e g i j k l sl) n d w calls =
       let alike : ImportsAlike N w ts ws = record { at = λ m. around m (same_imports w m h) } in
       if_all_data (all_are_data (imports_at w 0 ts)) (all_are_data (imports_at w 0 ws)) (still_data (alike.at 0))

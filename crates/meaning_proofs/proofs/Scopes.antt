@@ -54,6 +54,8 @@ module _ {P : Pairing} where
       (record {
         events = h.events;
         replies = h.replies;
+        handed = h.handed;
+        natives = h.natives;
         cells = λ x kept. store_sim (binds x) (binds' x) (hb x kept) (hcells _ _ he x kept) (h.cells x kept);
         guards = record { at = λ x g. store_guarded (binds x) _ (hdead _ x g) (h.guards.at x g) };
       })

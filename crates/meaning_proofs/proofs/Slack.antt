@@ -31,6 +31,8 @@ module _ {N : Names} where
     apart = record {
       events = refl;
       replies = refl;
+      handed = refl;
+      natives = refl;
       store = λ y keeps l. ap (λ b. cond b (slice_set (s.store y) k (record c { held = Some v })) (s.store y)) (other_name' N.loose x y u.is_loose l);
       loosely = λ y keeps l. go y (same_name x y) refl;
     };

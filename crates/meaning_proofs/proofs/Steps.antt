@@ -15,7 +15,7 @@ alike_turned (one_alike w i a) = one_alike (sym w) (sym i) (alike_turned a)
 alike_turned (one_any e a) = one_any e (alike_turned a)
 
 apart_turned : {N : Names} {s t : State} → Apart N s t → Apart N t s
-apart_turned h = record { events = sym h.events; replies = sym h.replies; store = λ x keeps l. sym (h.store x keeps l); loosely = λ x keeps l. alike_turned (h.loosely x keeps l) }
+apart_turned h = record { events = sym h.events; replies = sym h.replies; handed = sym h.handed; natives = sym h.natives; store = λ x keeps l. sym (h.store x keeps l); loosely = λ x keeps l. alike_turned (h.loosely x keeps l) }
 
 -- both are related, and the first is one value
 abbrev pub Known : Pairing → Value → Value → Value → Type 0
@@ -59,6 +59,8 @@ module _ {P : Pairing} where
   off_sim {r} {s} {t} o h = record {
     events = ap (counting P.ignores) o.apart.events ∙ h.events;
     replies = o.apart.replies ∙ h.replies;
+    handed = subst (λ vs. Each (V P) vs t.handed) (sym o.apart.handed) h.handed;
+    natives = o.apart.natives ∙ h.natives;
     cells = λ x keeps. left_cells x (P.loose x) refl (λ l. o.apart.store x keeps l) (λ l. o.apart.loosely x keeps l) (h.cells x keeps);
     guards = o.guards h.guards;
   }
@@ -68,6 +70,8 @@ module _ {P : Pairing} where
   apart_sim {s} {r} {t} o h = record {
     events = h.events ∙ ap (counting P.ignores) (sym o.events);
     replies = h.replies ∙ sym o.replies;
+    handed = subst (λ vs. Each (V P) s.handed vs) (sym o.handed) h.handed;
+    natives = h.natives ∙ sym o.natives;
     cells = λ x keeps. right_cells x (P.loose x) refl (λ l. o.store x keeps l) (λ l. o.loosely x keeps l) (h.cells x keeps);
     guards = h.guards;
   }

@@ -2,14 +2,14 @@
 use Rattle.std.proofs.Common.{◌≡◌, ℕ, zero, suc, Bool, true, false, List, [], ◌∷◌, ◌++◌, Option, Some, None, refl, sym, ap, ap₂, subst, length, slice_get, slice_set, cond, if◌then◌else◌, ◌∙◌, ◌&&◌}
 use Rattle.std.proofs.lemmas.Bool.{false≢true}
 use Rattle.swc_ast.specs.Tree.{Name, same_name}
-use Rattle.swc_ast.specs.Value.{Value, is_data, Event, Reads, Writes, Reply, Gives, Throws, Cell, State, Thrown, Outcome, Done, Jumps, Outside, Cut, Context}
+use Rattle.swc_ast.specs.Value.{Value, Items, Record, Own, Values, ◌▹◌, Fields, field, is_data, Event, Reads, Writes, Reply, Gives, Throws, Back, Cell, State, Thrown, Outcome, Done, Jumps, Outside, Cut, Context}
 use Rattle.meaning_proofs.specs.Sameness.{is_ignored, counting}
-use Rattle.swc_ast.specs.Meaning.{◌>>=◌, gives, leaves, take_reply, ask, is_unresolved, cell_at, set_cell, held_value, read_bound, read_host, read, write_cell, write_bound, write_host, write, is_initialised, initialise_cell, initialise_bound, initialise, in_core}
+use Rattle.swc_ast.specs.Meaning.{◌>>=◌, gives, leaves, take_reply, ask, tell, hand_function, hand, hand_all, hand_fields, is_unresolved, cell_at, set_cell, held_value, read_bound, read_host, read, write_cell, write_bound, write_host, write, is_initialised, initialise_cell, initialise_bound, initialise, in_core}
 use Rattle.meaning_proofs.specs.Names.{Names, Holds, empty, full, Guarded, no_cell, a_cell, Seen, shown, gone, Settable, may_set, never, Firm, not_loose, not_slack}
-use Rattle.meaning_proofs.proofs.Relation.{Pairing, Each, none, more, Maybe, neither, both, V, undefined, nan, Held, same_held, any_held, SameCell, alike, unlike, S, C, thrown, Sim, done, jump, outside, cut, Ran}
+use Rattle.meaning_proofs.proofs.Relation.{Pairing, Each, none, more, Maybe, neither, both, V, Vs, Fs, undefined, null, nan, type_error, script_this, truth, num, text, items, entries, function, token, own, no_value, value, no_entry, entry, Held, same_held, any_held, SameCell, alike, unlike, S, C, thrown, Sim, done, jump, outside, cut, Ran}
 use Rattle.meaning_proofs.proofs.Names.{same_name_eq}
-use Rattle.meaning_proofs.proofs.Combine.{gives_sim, leaves_sim, if_sim, if_when, in_core_sim, bind}
-use Rattle.meaning_proofs.proofs.Data.{data_same, data_equal, is_data_same}
+use Rattle.meaning_proofs.proofs.Combine.{Eq, gives_sim, leaves_sim, if_sim, in_core_sim, bind}
+use Rattle.meaning_proofs.proofs.Data.{data_same}
 
 module _ {A : Type 0} {RA : A → A → Type 0} where
   pub get_each : {xs ys : List A} → Each RA xs ys → (k : ℕ) → Maybe RA (slice_get xs k) (slice_get ys k)
@@ -119,8 +119,8 @@ firm_cell N x (not_slack l) e f = false≢true (sym l ∙ f)
 module _ {P : Pairing} where
   -- the host
 
-  with_replies : {s t : State} (rs : List Reply) → S P s t → S P (record s { replies = rs }) (record t { replies = rs })
-  with_replies rs h = record { events = h.events; replies = refl; cells = h.cells; guards = record { at = h.guards.at } }
+  pub with_replies : {s t : State} (rs : List Reply) → S P s t → S P (record s { replies = rs }) (record t { replies = rs })
+  with_replies rs h = record { events = h.events; replies = refl; handed = h.handed; natives = h.natives; cells = h.cells; guards = record { at = h.guards.at } }
 
   take_gives : (v : Value) (b : Bool) {s t : State} → is_data v ≡ b → S P s t → Sim P (V P) (if b then Done v s else Outside) (if b then Done v t else Outside)
   take_gives v true e h = done (data_same v e) h
@@ -130,13 +130,14 @@ module _ {P : Pairing} where
   take_throws v true e h = jump (thrown (data_same v e)) h
   take_throws v false e h = outside Outside
 
-  take_sim : (rs : List Reply) {s t : State} → S P s t → Sim P (V P) (take_reply rs s) (take_reply rs t)
+  pub take_sim : (rs : List Reply) {s t : State} → S P s t → Sim P (V P) (take_reply rs s) (take_reply rs t)
   take_sim [] h = cut Cut
   take_sim (Gives v ∷ rs) h = take_gives v (is_data v) refl (with_replies rs h)
   take_sim (Throws v ∷ rs) h = take_throws v (is_data v) refl (with_replies rs h)
+  take_sim (Back k this args ∷ rs) h = outside Outside
 
-  asked : (e : Event) {s t : State} → S P s t → S P (record s { events = s.events ++ e ∷ [] }) (record t { events = t.events ++ e ∷ [] })
-  asked e {s} {t} h = record { events = counting_same P.ignores s.events t.events (e ∷ []) h.events; replies = h.replies; cells = h.cells; guards = record { at = h.guards.at } }
+  pub asked : (e : Event) {s t : State} → S P s t → S P (record s { events = s.events ++ e ∷ [] }) (record t { events = t.events ++ e ∷ [] })
+  asked e {s} {t} h = record { events = counting_same P.ignores s.events t.events (e ∷ []) h.events; replies = h.replies; handed = h.handed; natives = h.natives; cells = h.cells; guards = record { at = h.guards.at } }
 
   pub ask_sim : (e : Event) → Ran P (V P) (ask e) (ask e)
   unfolding ask
@@ -145,6 +146,44 @@ module _ {P : Pairing} where
 
   pub ask_same : {e f : Event} → e ≡ f → Ran P (V P) (ask e) (ask f)
   ask_same {e} p = subst (λ f. Ran P (V P) (ask e) (ask f)) p (ask_sim e)
+
+  pub tell_same : {e f : Event} → e ≡ f → Ran P (V P) (tell e) (tell f)
+  unfolding tell
+  tell_same {e} p = subst (λ f. Ran P (V P) (tell e) (tell f)) p (λ s t h. done undefined (asked e h))
+
+  -- what is handed to the host is equal, and the functions in it are related
+
+  handed_more : {v w : Value} {s t : State} → V P v w → S P s t → S P (record s { handed = s.handed ++ v ∷ [] }) (record t { handed = t.handed ++ w ∷ [] })
+  handed_more r h = record { events = h.events; replies = h.replies; handed = append_each h.handed (more r none); natives = h.natives; cells = h.cells; guards = record { at = h.guards.at } }
+
+  hand_function_sim : {v w : Value} → V P v w → Ran P Eq (hand_function v) (hand_function w)
+  hand_function_sim r s t h = done (ap Own (length_each h.handed)) (handed_more r h)
+
+  mutual
+    unfolding hand hand_all hand_fields
+
+    pub hand_sim : {v w : Value} → V P v w → Ran P Eq (hand v) (hand w)
+    hand_sim undefined = gives_sim refl
+    hand_sim null = gives_sim refl
+    hand_sim nan = gives_sim refl
+    hand_sim type_error = gives_sim refl
+    hand_sim script_this = leaves_sim leaves
+    hand_sim (truth b) = gives_sim refl
+    hand_sim (num z) = gives_sim refl
+    hand_sim (text t) = gives_sim refl
+    hand_sim (items rs) = bind (hand_all_sim rs) (λ vs ws e. gives_sim (ap Items e))
+    hand_sim (entries rs) = bind (hand_fields_sim rs) (λ fs gs e. gives_sim (ap Record e))
+    hand_sim (function k e r) = hand_function_sim (function k e r)
+    hand_sim (token n b) = gives_sim refl
+    hand_sim (own k) = gives_sim refl
+
+    pub hand_all_sim : {vs ws : Values} → Vs P vs ws → Ran P Eq (hand_all vs) (hand_all ws)
+    hand_all_sim no_value = gives_sim refl
+    hand_all_sim (value r rs) = bind (hand_sim r) (λ v w e. bind (hand_all_sim rs) (λ vs ws d. gives_sim (ap₂ ◌▹◌ e d)))
+
+    hand_fields_sim : {fs gs : Fields} → Fs P fs gs → Ran P Eq (hand_fields fs) (hand_fields gs)
+    hand_fields_sim no_entry = gives_sim refl
+    hand_fields_sim (entry k r rs) = bind (hand_sim r) (λ v w e. bind (hand_fields_sim rs) (λ fs gs d. gives_sim (ap₂ (field k) e d)))
 
   -- cells
 
@@ -163,6 +202,8 @@ module _ {P : Pairing} where
   set_held_sim {s} h x keeps k {c} {v = v} q u r = record {
     events = h.events;
     replies = h.replies;
+    handed = h.handed;
+    natives = h.natives;
     cells = λ y kept. set_cells x y k (same_name x y) refl (renewed u r) (h.cells y kept);
     guards = record { at = λ y g. guard_set P.names s x y k c v q g (h.guards.at y g) };
   }
@@ -207,8 +248,8 @@ module _ {P : Pairing} where
   write_bound_sim x (Some k) keeps z f r = λ s t h. write_cell_sim x keeps z f k r (cell_sim h x keeps k) s t h
 
   -- an event that tells a value, and gives it
-  pub tell_sim : (e : Value → Event) {v w : Value} → V P v w → Ran P (V P) (if is_data v then (ask (e v) >>= λ r. gives v) else leaves) (if is_data w then (ask (e w) >>= λ r. gives w) else leaves)
-  tell_sim e r = if_when (is_data_same r) (λ d. bind (ask_same (ap e (data_equal r d))) (λ a b q. gives_sim r)) (λ d. leaves_sim leaves)
+  pub tell_sim : (e : Value → Event) {v w : Value} → V P v w → Ran P (V P) (hand v >>= λ x. ask (e x) >>= λ r. gives v) (hand w >>= λ x. ask (e x) >>= λ r. gives w)
+  tell_sim e r = bind (hand_sim r) (λ a b q. bind (ask_same (ap e q)) (λ x y p. gives_sim r))
 
   write_host_sim : (x : List ℕ) {v w : Value} → V P v w → Ran P (V P) (write_host x v) (write_host x w)
   write_host_sim x r = if_sim refl (leaves_sim leaves) (tell_sim (Writes x) r)

@@ -47,6 +47,8 @@ pub data AlikeCells (b : Bool) : List Cell → List Cell → Type 0 where
 pub record Apart (N : Names) (s t : State) : Type 0 where
   pub events : s.events ≡ t.events
   pub replies : s.replies ≡ t.replies
+  pub handed : s.handed ≡ t.handed
+  pub natives : s.natives ≡ t.natives
   pub store : (x : Name) → N.dropped x ≡ false → N.loose x ≡ false → s.store x ≡ t.store x
   pub loosely : (x : Name) → N.dropped x ≡ false → N.loose x ≡ true → AlikeCells (N.slack x) (s.store x) (t.store x)
 

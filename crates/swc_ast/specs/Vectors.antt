@@ -1,7 +1,7 @@
 -- Runs that the definitions compute: for each program, written above it, what is seen of it where the host gives these replies
 -- in turn. A host's object is a token: its number, and whether it is a function.
-use Rattle.std.specs.Prelude.{ℕ, zero, pos, negsuc, ◌≡◌, refl, true, false, List, [], ◌∷◌, Some, None, codes}
-use Rattle.swc_ast.specs.declared.UnaryOp.TheVariants.{Minus, Tilde}
+use Rattle.std.specs.Prelude.{ℕ, zero, pos, negsuc, ◌≡◌, refl, true, false, if◌then◌else◌, bytes_eq, List, [], ◌∷◌, Some, None, codes}
+use Rattle.swc_ast.specs.declared.UnaryOp.TheVariants.{Minus, Tilde, TypeOf as TypeOfOperator}
 use Rattle.swc_ast.specs.declared.UpdateOp.TheVariants.{PlusPlus}
 use Rattle.swc_ast.specs.declared.BinaryOp.{BinaryOp}
 use Rattle.swc_ast.specs.declared.BinaryOp.TheVariants.{EqEq, EqEqEq, Lt, LShift, ZeroFillRShift, Add, Sub, Mul, Mod, Exp, BitAnd, LogicalOr, LogicalAnd, NullishCoalescing}
@@ -10,8 +10,8 @@ use Rattle.swc_ast.specs.declared.AssignOp.TheVariants.{Assign as Plain, AddAssi
 use Rattle.swc_ast.specs.declared.VarDeclKind.{VarDeclKind}
 use Rattle.swc_ast.specs.declared.VarDeclKind.TheVariants.{Var, Let}
 use Rattle.swc_ast.specs.Tree.{Text, Name, NameKey, ItemKind, Plain as PlainItem, Spread as SpreadItem, Label, NumLit, StrLit, BoolLit, NullLit, This, Read, Template, Array, Object, SpreadRecord, KeyValue, Method, PlainKey, ComputedKey, Fn, Arrow, Params, Body, Param, Unary, TypeOfName, Binary, Cond, Seq, Dot, Index, Call, New, CallEval, CallDot, Assign, AssignDot, Update, UpdateDot, Block, Empty, Throw, ExprStmt, Return, If, While, DoWhile, For, Absent, Labeled, Break, Continue, Switch, CaseBody, Try, VarDecl, Declarator, FnDecl, Module, Script, Import, ImportNamed, ExportDecl, ExportNamed, ExportSpecifier, ExportDefaultFn, ExportDefaultExpr, Tree, node, Forest, ε, ◌⊳◌}
-use Rattle.swc_ast.specs.Value.{Value, Undefined, TypeError, Truth, Num, Text as TextValue, Items, Record, Token, Values, ∅, ◌▹◌, nofield, field, Load, Reads, TypeOf as TypeOfEvent, Writes, Gets, Sets, Calls, Makes, Event, Reply, Gives, Throws}
-use Rattle.swc_ast.specs.Run.{World, LaterCall, Observed, Sees, LeftCore, Unfinished, Ending, Finished, Threw, Answered, OwnFunction, Datum, observe}
+use Rattle.swc_ast.specs.Value.{Value, Undefined, TypeError, Truth, Num, Text as TextValue, Items, Record, Token, Own, Values, ∅, ◌▹◌, nofield, field, Load, Reads, TypeOf as TypeOfEvent, Writes, Gets, Sets, Calls, Makes, Returns, Fails, Event, Reply, Gives, Throws, Back, Natives, Lists, Numbers}
+use Rattle.swc_ast.specs.Run.{World, LaterCall, Observed, Sees, LeftCore, Unfinished, Ending, Finished, Threw, Answered, Failed, OwnFunction, Datum, Export, Handed, observe}
 
 -- trees: unresolved names have the context 1, and those of the k-th scope the context 1 + k
 
@@ -83,8 +83,14 @@ result t = program (one ExportDecl (declares Let (codes "r") 2 t) ⊳ ε)
 
 -- runs: at most 9 turns of each loop, and calls to a depth of at most 9
 
+-- what values inherit: lists and numbers a function each
+abbrev natively : Natives → List ℕ → Value
+natively Lists k = if bytes_eq k (codes "map") then Token 7 true else Undefined
+natively Numbers k = if bytes_eq k (codes "toFixed") then Token 8 true else Undefined
+natively _ k = Undefined
+
 abbrev offering : Value → List Value → List Reply → World
-offering v vs rs = record { replies = rs; imports = λ m x. record { first = v; later = vs }; namespaces = λ m. Token 0 false }
+offering v vs rs = record { replies = rs; natives = natively; imports = λ m x. record { first = v; later = vs }; namespaces = λ m. Token 0 false }
 
 abbrev given : List Reply → World
 given rs = offering Undefined [] rs
@@ -93,7 +99,10 @@ abbrev silent : World
 silent = given []
 
 abbrev later : Text → Values → LaterCall
-later t vs = record { name = t; arguments = vs }
+later t vs = record { callee = Export t; arguments = vs }
+
+abbrev handler : ℕ → Values → LaterCall
+handler k vs = record { callee = Handed k Undefined; arguments = vs }
 
 abbrev run : World → List LaterCall → Tree → Observed
 run w calls t = observe 1 9 9 w calls t
@@ -107,7 +116,7 @@ answer v = sees [] (Finished ((codes "r", Datum v) ∷ []) [])
 
 -- what runs compute by
 unfoldable runs : ℕ
-unfolding Rattle.swc_ast.specs.Value.and_then Rattle.swc_ast.specs.Operators.units Rattle.swc_ast.specs.Operators.binary_prim Rattle.swc_ast.specs.Operators.unary_value Rattle.swc_ast.specs.Operators.is_inherited Rattle.swc_ast.specs.Operators.index_of Rattle.swc_ast.specs.Operators.own_property Rattle.swc_ast.specs.Meaning.ask Rattle.swc_ast.specs.Meaning.read Rattle.swc_ast.specs.Meaning.write Rattle.swc_ast.specs.Meaning.initialise Rattle.swc_ast.specs.Meaning.in_scope Rattle.swc_ast.specs.Meaning.get Rattle.swc_ast.specs.Meaning.put Rattle.swc_ast.specs.Meaning.call_value Rattle.swc_ast.specs.Meaning.make_value Rattle.swc_ast.specs.Meaning.get_at Rattle.swc_ast.specs.Meaning.put_at Rattle.swc_ast.specs.Meaning.all_values Rattle.swc_ast.specs.Meaning.in_turn Rattle.swc_ast.specs.Meaning.run_all Rattle.swc_ast.specs.Meaning.array_items Rattle.swc_ast.specs.Meaning.object_fields Rattle.swc_ast.specs.Meaning.operate Rattle.swc_ast.specs.Meaning.assign Rattle.swc_ast.specs.Meaning.update Rattle.swc_ast.specs.Meaning.in_list_scope Rattle.swc_ast.specs.Meaning.turn Rattle.swc_ast.specs.Meaning.turns Rattle.swc_ast.specs.Meaning.do_turns Rattle.swc_ast.specs.Meaning.copies Rattle.swc_ast.specs.Meaning.at_label Rattle.swc_ast.specs.Meaning.at_break Rattle.swc_ast.specs.Meaning.at_return Rattle.swc_ast.specs.Meaning.selected Rattle.swc_ast.specs.Meaning.switch Rattle.swc_ast.specs.Meaning.try_catch Rattle.swc_ast.specs.Meaning.declare Rattle.swc_ast.specs.Meaning.for_loop Rattle.swc_ast.specs.Meaning.template_text Rattle.swc_ast.specs.Meaning.type_of_name Rattle.swc_ast.specs.Meaning.act Rattle.swc_ast.specs.Meaning.eval Rattle.swc_ast.specs.Meaning.evals Rattle.swc_ast.specs.Call.bind_params Rattle.swc_ast.specs.Call.run_function Rattle.swc_ast.specs.Call.invoke Rattle.swc_ast.specs.Call.call_at Rattle.swc_ast.specs.Run.show_exports Rattle.swc_ast.specs.Run.answers Rattle.swc_ast.specs.Run.run_items Rattle.swc_ast.specs.Run.run_statements Rattle.swc_ast.specs.Run.observe_by
+unfolding Rattle.swc_ast.specs.Value.and_then Rattle.swc_ast.specs.Operators.units Rattle.swc_ast.specs.Operators.binary_prim Rattle.swc_ast.specs.Operators.unary_value Rattle.swc_ast.specs.Operators.is_inherited Rattle.swc_ast.specs.Operators.index_of Rattle.swc_ast.specs.Operators.own_property Rattle.swc_ast.specs.Meaning.ask Rattle.swc_ast.specs.Meaning.tell Rattle.swc_ast.specs.Meaning.hand Rattle.swc_ast.specs.Meaning.hand_all Rattle.swc_ast.specs.Meaning.hand_fields Rattle.swc_ast.specs.Meaning.call_handed Rattle.swc_ast.specs.Meaning.replies_to_call Rattle.swc_ast.specs.Meaning.ask_call Rattle.swc_ast.specs.Meaning.read Rattle.swc_ast.specs.Meaning.write Rattle.swc_ast.specs.Meaning.initialise Rattle.swc_ast.specs.Meaning.in_scope Rattle.swc_ast.specs.Meaning.get Rattle.swc_ast.specs.Meaning.put Rattle.swc_ast.specs.Meaning.call_value Rattle.swc_ast.specs.Meaning.make_value Rattle.swc_ast.specs.Meaning.get_at Rattle.swc_ast.specs.Meaning.put_at Rattle.swc_ast.specs.Meaning.all_values Rattle.swc_ast.specs.Meaning.in_turn Rattle.swc_ast.specs.Meaning.run_all Rattle.swc_ast.specs.Meaning.array_items Rattle.swc_ast.specs.Meaning.object_fields Rattle.swc_ast.specs.Meaning.operate Rattle.swc_ast.specs.Meaning.assign Rattle.swc_ast.specs.Meaning.update Rattle.swc_ast.specs.Meaning.in_list_scope Rattle.swc_ast.specs.Meaning.turn Rattle.swc_ast.specs.Meaning.turns Rattle.swc_ast.specs.Meaning.do_turns Rattle.swc_ast.specs.Meaning.copies Rattle.swc_ast.specs.Meaning.at_label Rattle.swc_ast.specs.Meaning.at_break Rattle.swc_ast.specs.Meaning.at_return Rattle.swc_ast.specs.Meaning.selected Rattle.swc_ast.specs.Meaning.switch Rattle.swc_ast.specs.Meaning.try_catch Rattle.swc_ast.specs.Meaning.declare Rattle.swc_ast.specs.Meaning.for_loop Rattle.swc_ast.specs.Meaning.template_text Rattle.swc_ast.specs.Meaning.type_of_name Rattle.swc_ast.specs.Meaning.act Rattle.swc_ast.specs.Meaning.eval Rattle.swc_ast.specs.Meaning.evals Rattle.swc_ast.specs.Call.bind_params Rattle.swc_ast.specs.Call.run_function Rattle.swc_ast.specs.Call.invoke Rattle.swc_ast.specs.Call.call_at Rattle.swc_ast.specs.Run.show_exports Rattle.swc_ast.specs.Run.answers Rattle.swc_ast.specs.Run.run_items Rattle.swc_ast.specs.Run.run_statements Rattle.swc_ast.specs.Run.observe_by
 runs = zero
 
 -- values and operators
@@ -429,6 +438,78 @@ uncaught :
     ≡ sees (Reads (codes "f") ∷ []) (Threw (Num (pos 7)))
 unfolding runs
 uncaught = refl
+
+-- functions that are handed to the host
+
+-- let n = 0; f(function (d) { n += d; return n; }); export {n};
+called_back :
+    run (given (Gives (Token 1 true) ∷ Back 0 Undefined (Num (pos 3) ▹ ∅) ∷ Back 0 Undefined (Num (pos 4) ▹ ∅) ∷ Gives Undefined ∷ [])) [] (program (
+    declares Let (codes "n") 2 (number 0)
+    ⊳ does (two Call (host (codes "f")) (two (Fn None) (one Params (leaf (Param (name (codes "d") 3)))) (two Body
+    (does (assigns AddAssign (codes "n") 2 (own (codes "d") 3)))
+    (one Return (own (codes "n") 2)))))
+    ⊳ exports (codes "n") 2
+    ⊳ ε))
+    ≡ sees (Reads (codes "f") ∷ Calls (Token 1 true) Undefined (Own 0 ▹ ∅) ∷ Returns (Num (pos 3)) ∷ Returns (Num (pos 7)) ∷ []) (
+    Finished ((codes "n", Datum (Num (pos 7))) ∷ []) [])
+unfolding runs
+called_back = refl
+
+-- let n = 0; f([() => { n += 1; throw n; }], n); export {n}; where the host calls the arrow during the call, and again later
+handlers :
+    run (given (Gives (Token 1 true) ∷ Back 0 Undefined ∅ ∷ Throws (Num (pos 1)) ∷ [])) (handler 0 ∅ ∷ []) (program (
+    declares Let (codes "n") 2 (number 0)
+    ⊳ three (Try (Some None)) (one Block (does (three Call (host (codes "f")) (array (two Arrow (leaf Params) (two Body
+    (does (assigns AddAssign (codes "n") 2 (number 1)))
+    (one Throw (own (codes "n") 2))) ⊳ ε))
+    (own (codes "n") 2))))
+    (leaf Block)
+    (leaf Absent)
+    ⊳ exports (codes "n") 2
+    ⊳ ε))
+    ≡ sees (Reads (codes "f") ∷ Calls (Token 1 true) Undefined (Items (Own 0 ▹ ∅) ▹ Num (pos 0) ▹ ∅) ∷ Fails (Num (pos 1)) ∷ []) (
+    Finished ((codes "n", Datum (Num (pos 1))) ∷ []) (Failed (Num (pos 2)) ((codes "n", Datum (Num (pos 2))) ∷ []) ∷ []))
+unfolding runs
+handlers = refl
+
+-- var n = 0; f(() => { n += 1; return n; }); as a script, where the host calls the arrow later, twice
+handlers_of_scripts :
+    run (given (Gives (Token 1 true) ∷ Gives Undefined ∷ [])) (handler 0 ∅ ∷ handler 0 ∅ ∷ []) (script (
+    declares Var (codes "n") 2 (number 0)
+    ⊳ does (two Call (host (codes "f")) (two Arrow (leaf Params) (two Body
+    (does (assigns AddAssign (codes "n") 2 (number 1)))
+    (one Return (own (codes "n") 2)))))
+    ⊳ ε))
+    ≡ sees (Reads (codes "f") ∷ Calls (Token 1 true) Undefined (Own 0 ▹ ∅) ∷ []) (Finished [] (Answered (Num (pos 1)) [] ∷ Answered (Num (pos 2)) [] ∷ []))
+unfolding runs
+handlers_of_scripts = refl
+
+-- members that values inherit from the host
+
+-- export let r = [1, 2].map(x => x + 1);
+mapped :
+    run (given (Back 0 Undefined (Num (pos 1) ▹ ∅) ∷ Back 0 Undefined (Num (pos 2) ▹ ∅) ∷ Gives (Items (Num (pos 2) ▹ Num (pos 3) ▹ ∅)) ∷ [])) [] (result (
+    two (CallDot (codes "map")) (array (number 1 ⊳ number 2 ⊳ ε)) (two Arrow (one Params (leaf (Param (name (codes "x") 3)))) (binary Add (own (codes "x") 3) (number 1)))))
+    ≡ sees (Calls (Token 7 true) (Items (Num (pos 1) ▹ Num (pos 2) ▹ ∅)) (Own 0 ▹ ∅) ∷ Returns (Num (pos 2)) ∷ Returns (Num (pos 3)) ∷ []) (
+    Finished ((codes "r", Datum (Items (Num (pos 2) ▹ Num (pos 3) ▹ ∅))) ∷ []) [])
+unfolding runs
+mapped = refl
+
+-- export let r = [typeof 5 .toFixed, 'abc'.none, [5].length];
+inherited :
+    run silent [] (result (array (
+    one (Unary TypeOfOperator) (one (Dot (codes "toFixed")) (number 5))
+    ⊳ one (Dot (codes "none")) (text (codes "abc"))
+    ⊳ one (Dot (codes "length")) (array (number 5 ⊳ ε))
+    ⊳ ε)))
+    ≡ answer (Items (TextValue (codes "function") ▹ Undefined ▹ Num (pos 1) ▹ ∅))
+unfolding runs
+inherited = refl
+
+-- [1].push(2);
+changed : run silent [] (program (does (two (CallDot (codes "push")) (array (number 1 ⊳ ε)) (number 2)) ⊳ ε)) ≡ LeftCore
+unfolding runs
+changed = refl
 
 -- modules and scripts
 

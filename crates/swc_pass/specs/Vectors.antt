@@ -53,7 +53,7 @@ globals g vs = inlined (record { values = vs; global = g; expression = λ t. Non
 -- runs
 
 abbrev replying : List Reply → World
-replying rs = record { replies = rs; imports = λ m x. record { first = Undefined; later = [] }; namespaces = λ m. Token 0 false }
+replying rs = record { replies = rs; natives = λ n k. Undefined; imports = λ m x. record { first = Undefined; later = [] }; namespaces = λ m. Token 0 false }
 
 abbrev run : Answers → List Reply → Tree → Observed
 run a rs t = observe_given a 1 9 9 (replying rs) [] t
@@ -65,7 +65,7 @@ abbrev ends_with : List Event → Value → Observed
 ends_with es v = sees es (Finished ((codes "r", Datum v) ∷ []) [])
 
 unfoldable runs : ℕ
-unfolding Rattle.swc_pass.specs.Given.act_given Rattle.swc_pass.specs.Given.eval_inside Rattle.swc_pass.specs.Given.evals_inside Rattle.swc_pass.specs.Given.eval_within Rattle.swc_ast.specs.Value.and_then Rattle.swc_ast.specs.Operators.units Rattle.swc_ast.specs.Operators.binary_prim Rattle.swc_ast.specs.Operators.unary_value Rattle.swc_ast.specs.Operators.is_inherited Rattle.swc_ast.specs.Operators.index_of Rattle.swc_ast.specs.Operators.own_property Rattle.swc_ast.specs.Meaning.ask Rattle.swc_ast.specs.Meaning.read Rattle.swc_ast.specs.Meaning.write Rattle.swc_ast.specs.Meaning.initialise Rattle.swc_ast.specs.Meaning.in_scope Rattle.swc_ast.specs.Meaning.get Rattle.swc_ast.specs.Meaning.put Rattle.swc_ast.specs.Meaning.call_value Rattle.swc_ast.specs.Meaning.make_value Rattle.swc_ast.specs.Meaning.get_at Rattle.swc_ast.specs.Meaning.put_at Rattle.swc_ast.specs.Meaning.all_values Rattle.swc_ast.specs.Meaning.in_turn Rattle.swc_ast.specs.Meaning.run_all Rattle.swc_ast.specs.Meaning.array_items Rattle.swc_ast.specs.Meaning.object_fields Rattle.swc_ast.specs.Meaning.operate Rattle.swc_ast.specs.Meaning.assign Rattle.swc_ast.specs.Meaning.update Rattle.swc_ast.specs.Meaning.in_list_scope Rattle.swc_ast.specs.Meaning.at_return Rattle.swc_ast.specs.Meaning.declare Rattle.swc_ast.specs.Meaning.type_of_name Rattle.swc_ast.specs.Meaning.act Rattle.swc_ast.specs.Meaning.eval Rattle.swc_ast.specs.Meaning.evals Rattle.swc_ast.specs.Call.bind_params Rattle.swc_ast.specs.Call.run_function Rattle.swc_ast.specs.Call.invoke Rattle.swc_ast.specs.Call.call_at Rattle.swc_ast.specs.Run.show_exports Rattle.swc_ast.specs.Run.answers Rattle.swc_ast.specs.Run.run_items Rattle.swc_ast.specs.Run.run_statements Rattle.swc_ast.specs.Run.observe_by
+unfolding Rattle.swc_pass.specs.Given.act_given Rattle.swc_pass.specs.Given.eval_inside Rattle.swc_pass.specs.Given.evals_inside Rattle.swc_pass.specs.Given.eval_within Rattle.swc_ast.specs.Value.and_then Rattle.swc_ast.specs.Operators.units Rattle.swc_ast.specs.Operators.binary_prim Rattle.swc_ast.specs.Operators.unary_value Rattle.swc_ast.specs.Operators.is_inherited Rattle.swc_ast.specs.Operators.index_of Rattle.swc_ast.specs.Operators.own_property Rattle.swc_ast.specs.Meaning.ask Rattle.swc_ast.specs.Meaning.tell Rattle.swc_ast.specs.Meaning.hand Rattle.swc_ast.specs.Meaning.hand_all Rattle.swc_ast.specs.Meaning.hand_fields Rattle.swc_ast.specs.Meaning.call_handed Rattle.swc_ast.specs.Meaning.replies_to_call Rattle.swc_ast.specs.Meaning.ask_call Rattle.swc_ast.specs.Meaning.read Rattle.swc_ast.specs.Meaning.write Rattle.swc_ast.specs.Meaning.initialise Rattle.swc_ast.specs.Meaning.in_scope Rattle.swc_ast.specs.Meaning.get Rattle.swc_ast.specs.Meaning.put Rattle.swc_ast.specs.Meaning.call_value Rattle.swc_ast.specs.Meaning.make_value Rattle.swc_ast.specs.Meaning.get_at Rattle.swc_ast.specs.Meaning.put_at Rattle.swc_ast.specs.Meaning.all_values Rattle.swc_ast.specs.Meaning.in_turn Rattle.swc_ast.specs.Meaning.run_all Rattle.swc_ast.specs.Meaning.array_items Rattle.swc_ast.specs.Meaning.object_fields Rattle.swc_ast.specs.Meaning.operate Rattle.swc_ast.specs.Meaning.assign Rattle.swc_ast.specs.Meaning.update Rattle.swc_ast.specs.Meaning.in_list_scope Rattle.swc_ast.specs.Meaning.at_return Rattle.swc_ast.specs.Meaning.declare Rattle.swc_ast.specs.Meaning.type_of_name Rattle.swc_ast.specs.Meaning.act Rattle.swc_ast.specs.Meaning.eval Rattle.swc_ast.specs.Meaning.evals Rattle.swc_ast.specs.Call.bind_params Rattle.swc_ast.specs.Call.run_function Rattle.swc_ast.specs.Call.invoke Rattle.swc_ast.specs.Call.call_at Rattle.swc_ast.specs.Run.show_exports Rattle.swc_ast.specs.Run.answers Rattle.swc_ast.specs.Run.run_items Rattle.swc_ast.specs.Run.run_statements Rattle.swc_ast.specs.Run.observe_by
 runs = zero
 
 -- x = a.b: x(); the call hands on no receiver

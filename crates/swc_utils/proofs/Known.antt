@@ -9,8 +9,8 @@ use Rattle.swc_ast.specs.declared.BinaryOp.TheVariants.{LogicalOr, LogicalAnd}
 use Rattle.swc_ast.specs.declared.AssignOp.TheVariants.{Assign as PlainAssign}
 use Rattle.swc_ast.specs.declared.Span.{Span}
 use Rattle.swc_ast.specs.Tree.{Name, Label, NumLit, StrLit, BoolLit, NullLit, Read, Template, Array, Object, Seq, Fn, Arrow, Unary, Binary, Assign, AssignDot, AssignIndex, Tree, node, Forest, ε, ◌⊳◌}
-use Rattle.swc_ast.specs.Value.{Value, Undefined, NaN, Truth, Num, Text, Reads, Writes, Sets, Cell, Run, Context, Meaning, is_data}
-use Rattle.swc_ast.specs.Meaning.{◌>>=◌, gives, leaves, in_core, ask, throws_type_error, read, read_bound, cell_at, is_initialised, write_cell, write_bound, write, put, put_at, token_text, is_unresolved, Caller, shape0, in_turn, operate, assign, template_text, act, eval, evals}
+use Rattle.swc_ast.specs.Value.{Value, Undefined, NaN, Truth, Num, Text, Reads, Writes, Sets, Cell, Run, Context, Meaning}
+use Rattle.swc_ast.specs.Meaning.{◌>>=◌, gives, leaves, in_core, ask, hand, throws_type_error, read, read_bound, cell_at, is_initialised, write_cell, write_bound, write, put, put_at, token_text, is_unresolved, Caller, shape0, in_turn, operate, assign, template_text, act, eval, evals}
 use Rattle.swc_ast.specs.Operators.{truthy, to_text, to_number, Numeric, NotANumber, Whole, number_value, unary_value, negated, on_number, core_number, greatest, is_nullish}
 use Rattle.swc_utils.specs.Pure.{no_trees, pure, pure_all}
 use Rattle.swc_utils.specs.Known.{literal, unary_known, of_value, minus, unary_number, unary_truth, or_truth, and_truth, binary_truth, is_filled, some_filled, template_truth, joined_texts, template_known, truth, last_truth, number, text}
@@ -36,11 +36,11 @@ written_bound x v (Some k) = record { by = λ s. (written_cell x k v (cell_at s 
 
 pub written : (mark : ℕ) (x : Name) (v : Value) (c : Context) → Yields (Is v) (write mark x v c)
 unfolding write
-written mark x v c = yields_if (is_unresolved mark x) (yields_if _ yields_leaves (yields_if (is_data v) (yields_then (any (ask (Writes x.text v))) (λ r _. yields_gives v refl)) yields_leaves)) (written_bound x v (c.env x))
+written mark x v c = yields_if (is_unresolved mark x) (yields_if _ yields_leaves (yields_then (any (hand v)) (λ w _. yields_then (any (ask (Writes x.text w))) (λ r _. yields_gives v refl)))) (written_bound x v (c.env x))
 
 pub put_gives : (o : Value) (k : List ℕ) (v : Value) → Yields (Is v) (put o k v)
 unfolding put
-put_gives o k v = yields_if (token_text o) (yields_if (is_data v) (yields_then (any (ask (Sets o k v))) (λ r _. yields_gives v refl)) yields_leaves) (yields_if (is_nullish o) yields_throw yields_leaves)
+put_gives o k v = yields_if (token_text o) (yields_then (any (hand v)) (λ w _. yields_then (any (ask (Sets o k w))) (λ r _. yields_gives v refl))) (yields_if (is_nullish o) yields_throw yields_leaves)
 
 pub put_at_gives : (o k : Value) (v : Value) → Yields (Is v) (put_at o k v)
 unfolding put_at
