@@ -50,6 +50,8 @@ own_more (NumLit z) cs h = absurd (omega (arith, h))
 own_more (Param x) cs h = absurd (omega (arith, h))
 own_more (Try None) cs h = omega arith
 own_more (Try (Some o)) cs h = omega arith
+own_more tree.Empty cs h = omega (arith, h)
+own_more (tree.FnDecl x0) cs h = omega (arith, h)
 own_more l cs h = omega (arith, h)
 
 no_own_vars : (l : Label) → 1 ≤ stmt_form l → own_vars l ≡ []

@@ -3,7 +3,7 @@ use Rattle.std.proofs.Common.{◌≡◌, ℕ, true, false, List, [], ◌++◌, r
 use Rattle.std.proofs.lemmas.Bool.{false≢true, and_parts}
 use Rattle.swc_ast.specs.declared.Span.{Span}
 use Rattle.swc_ast.specs.declared.VarDeclKind.TheVariants.{Let}
-use Rattle.swc_ast.specs.Tree.{Block, Empty, Throw, ExprStmt, Return, If, While, DoWhile, For, Labeled, Break, Continue, Switch, Try, VarDecl, FnDecl, Tree, node, Forest, ε, ◌⊳◌, label_of}
+use Rattle.swc_ast.specs.Tree.{Block, VarDecl, Tree, node, Forest, ε, ◌⊳◌, label_of, simple, holder, decl}
 use Rattle.swc_ast.specs.Value.{Value, Undefined, Outcome, Done, Jumps, Outside, Cut, Run, and_then, Context}
 use Rattle.swc_ast.specs.Scope.{has_name, found, is_found, vars, vars_all, declared_by, declared, list_binds, Declared}
 use Rattle.swc_ast.specs.Meaning.{◌>>=◌, gives, run_all, Caller, list_cells, in_list_scope, copied_names, act, eval, evals}
@@ -53,22 +53,9 @@ module _ (mark : ℕ) (rs : List Span) where
 -- names
 
 statement_no_part : (t : Tree) → gives_nothing t ≡ true → is_part (label_of t) ≡ false
-statement_no_part (node Block ss cs) h = refl
-statement_no_part (node Empty ss cs) h = refl
-statement_no_part (node Throw ss cs) h = refl
-statement_no_part (node ExprStmt ss cs) h = refl
-statement_no_part (node Return ss cs) h = refl
-statement_no_part (node While ss cs) h = refl
-statement_no_part (node DoWhile ss cs) h = refl
-statement_no_part (node For ss cs) h = refl
-statement_no_part (node (Break l) ss cs) h = refl
-statement_no_part (node (Continue l) ss cs) h = refl
-statement_no_part (node (Switch ds) ss cs) h = refl
-statement_no_part (node (VarDecl kind) ss cs) h = refl
-statement_no_part (node (FnDecl x) ss cs) h = refl
-statement_no_part (node If ss cs) h = refl
-statement_no_part (node (Labeled l) ss cs) h = refl
-statement_no_part (node (Try o) ss cs) h = refl
+statement_no_part (node (simple s) ss cs) h = refl
+statement_no_part (node (holder l) ss cs) h = refl
+statement_no_part (node (decl d) ss cs) h = refl
 statement_no_part _ h = absurd (false≢true h)
 
 pub no_copies : (t : Tree) → declared_by t ≡ [] → copied_names t ≡ []

@@ -2,7 +2,7 @@
 use Rattle.std.proofs.Common.{◌≡◌, ℕ, ◌+◌, ◌*◌, ◌≤◌, Bool, true, false, if◌then◌else◌, List, [], ◌++◌, length, Some, None, refl, ap₂, ◌∙◌, arith, length-append}
 use Rattle.std.proofs.lemmas.Bool.{and_parts, false≢true}
 use Rattle.swc_ast.specs.declared.VarDeclKind.TheVariants.{Var, Let, Const}
-use Rattle.swc_ast.specs.Tree.{Name, Label, Block, Empty, Throw, ExprStmt, Return, If, While, DoWhile, For, Labeled, Break, Continue, Switch, Try, VarDecl, Declarator, Tree, node, Forest, ε, ◌⊳◌, label_of, children_of}
+use Rattle.swc_ast.specs.Tree.{Name, Label, Block, Empty, Throw, ExprStmt, Return, If, While, DoWhile, For, Labeled, Break, Continue, Switch, Try, VarDecl, Declarator, Tree, node, Forest, ε, ◌⊳◌, label_of, children_of, simple, holder}
 use Rattle.swc_ast.specs.Scope.{vars, vars_all, own_vars, holds_statements, import_names_of, import_names}
 use Rattle.swc_ast.specs.Weight.{own_weight, weight, weight_all, stays_behind, is_truth_or_absent}
 use Rattle.swc_ast.specs.Core.{list_names}
@@ -22,20 +22,8 @@ pub record Nothing (t : Tree) : Type 0 where
   pub no_truth : is_truth_or_absent t ≡ false
 
 pub plain_nothing : (t : Tree) → is_plain_statement (label_of t) ≡ true → Nothing t
-plain_nothing (node Block ss cs) h = record { no_names = refl; no_imports = refl; no_exports = refl; no_stay = refl; no_truth = refl }
-plain_nothing (node Empty ss cs) h = record { no_names = refl; no_imports = refl; no_exports = refl; no_stay = refl; no_truth = refl }
-plain_nothing (node Throw ss cs) h = record { no_names = refl; no_imports = refl; no_exports = refl; no_stay = refl; no_truth = refl }
-plain_nothing (node ExprStmt ss cs) h = record { no_names = refl; no_imports = refl; no_exports = refl; no_stay = refl; no_truth = refl }
-plain_nothing (node Return ss cs) h = record { no_names = refl; no_imports = refl; no_exports = refl; no_stay = refl; no_truth = refl }
-plain_nothing (node If ss cs) h = record { no_names = refl; no_imports = refl; no_exports = refl; no_stay = refl; no_truth = refl }
-plain_nothing (node While ss cs) h = record { no_names = refl; no_imports = refl; no_exports = refl; no_stay = refl; no_truth = refl }
-plain_nothing (node DoWhile ss cs) h = record { no_names = refl; no_imports = refl; no_exports = refl; no_stay = refl; no_truth = refl }
-plain_nothing (node For ss cs) h = record { no_names = refl; no_imports = refl; no_exports = refl; no_stay = refl; no_truth = refl }
-plain_nothing (node (Labeled t) ss cs) h = record { no_names = refl; no_imports = refl; no_exports = refl; no_stay = refl; no_truth = refl }
-plain_nothing (node (Break o) ss cs) h = record { no_names = refl; no_imports = refl; no_exports = refl; no_stay = refl; no_truth = refl }
-plain_nothing (node (Continue o) ss cs) h = record { no_names = refl; no_imports = refl; no_exports = refl; no_stay = refl; no_truth = refl }
-plain_nothing (node (Switch ds) ss cs) h = record { no_names = refl; no_imports = refl; no_exports = refl; no_stay = refl; no_truth = refl }
-plain_nothing (node (Try o) ss cs) h = record { no_names = refl; no_imports = refl; no_exports = refl; no_stay = refl; no_truth = refl }
+plain_nothing (node (simple s) ss cs) h = record { no_names = refl; no_imports = refl; no_exports = refl; no_stay = refl; no_truth = refl }
+plain_nothing (node (holder l) ss cs) h = record { no_names = refl; no_imports = refl; no_exports = refl; no_stay = refl; no_truth = refl }
 plain_nothing (node (VarDecl Var) ss cs) h = record { no_names = refl; no_imports = refl; no_exports = refl; no_stay = refl; no_truth = refl }
 plain_nothing (node l ss cs) h = absurd (false≢true h)
 

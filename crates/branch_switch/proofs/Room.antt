@@ -13,7 +13,7 @@ use Rattle.swc_ast.specs.declared.declarations.Decl.TheViews.{roll-Stmt, out-Stm
 use Rattle.swc_ast.specs.Parts.{list_trees}
 use Rattle.swc_ast.specs.Statements.{labeled_tree}
 use Rattle.swc_ast.specs.Scope.{joined, vars, vars_all, own_vars, holds_statements, has_name}
-use Rattle.swc_ast.specs.Tree.{Name, Label, Block, If, While, DoWhile, For, Labeled, Switch, Try, VarDecl, NumLit, Invalid, PlainKey, ComputedKey, Params, Param, Absent, Module, Script, Declarator, Tree, node, Forest, ε, ◌⊳◌, label_of}
+use Rattle.swc_ast.specs.Tree.{Name, Label, Block, If, While, DoWhile, For, Labeled, Switch, Try, VarDecl, NumLit, Invalid, PlainKey, ComputedKey, Params, Param, Absent, Module, Script, Declarator, Tree, node, Forest, ε, ◌⊳◌, label_of, Empty, FnDecl}
 use Rattle.swc_ast.specs.Value.{Value}
 use Rattle.swc_ast.specs.Views.{stmt_tree}
 use Rattle.swc_ast.specs.Weight.{own_weight, weight, weight_all}
@@ -52,6 +52,8 @@ own_more (NumLit z) cs h = absurd (omega (arith, h))
 own_more (Param x) cs h = absurd (omega (arith, h))
 own_more (Try None) cs h = omega arith
 own_more (Try (Some o)) cs h = omega arith
+own_more Empty cs h = omega (arith, h)
+own_more (FnDecl x0) cs h = omega (arith, h)
 own_more l cs h = omega (arith, h)
 
 no_own_vars : (l : Label) → 1 ≤ stmt_form l → own_vars l ≡ []
@@ -144,6 +146,8 @@ value_weighs mark (node Module ss cs) w e = absurd (false≢true (ap is_known e)
 value_weighs mark (node Script ss cs) w e = absurd (false≢true (ap is_known e))
 value_weighs mark (node (Try None) ss cs) w e = omega arith
 value_weighs mark (node (Try (Some o)) ss cs) w e = omega arith
+value_weighs mark (node Empty ss cs) w e = omega arith
+value_weighs mark (node (FnDecl x0) ss cs) w e = omega arith
 value_weighs mark (node l ss cs) w e = omega arith
 
 first_passed : (mark : ℕ) (v : Value) {k : Clause} {ks : List Clause} → k.is_default ≡ false → Passed mark v (k ∷ ks) → (1 ≤ weight k.test) × Passed mark v ks

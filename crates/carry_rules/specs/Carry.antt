@@ -132,11 +132,16 @@ put_unless false q = q
 abbrev pub carried : Carried → Name → Put
 carried s y = put_unless s.quiet (or_put (s.values y) (s.settled y))
 
+-- what is put for a name that is a key too
+abbrev pub shorthand_put : Pass → Carried → Name → Put
+shorthand_put constants s y = carried s y
+shorthand_put p s y = nothing
+
 -- what is put for the name that a node reads
 abbrev pub read_put : Pass → Carried → Label → Put
 read_put p s (Read y) = carried s y
 read_put p s (TypeOfName y) = carried s y
-read_put constants s (Shorthand y) = carried s y
+read_put p s (Shorthand y) = shorthand_put p s y
 read_put p s l = nothing
 
 -- nodes in which nothing is put

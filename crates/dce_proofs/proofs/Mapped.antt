@@ -4,7 +4,7 @@ use Rattle.std.proofs.Common.{◌≡◌, ℕ, ◌+◌, ◌≤◌, Bool, true, fa
 use Rattle.std.proofs.lemmas.Bool.{false≢true, true≢false, and_from}
 use Rattle.swc_ast.specs.declared.Span.{Span}
 use Rattle.swc_ast.specs.declared.VarDeclKind.{VarDeclKind}
-use Rattle.swc_ast.specs.Tree.{Text, Name, Label, Fn, Arrow, Method, FnDecl, ExportDefaultFn, ExportDecl, ExportNamed, ExportSpecifier, Params, Body, Block, CaseBody, VarDecl, Import, Tree, node, Forest, ε, ◌⊳◌}
+use Rattle.swc_ast.specs.Tree.{Text, Name, Label, Fn, Arrow, Method, FnDecl, ExportDefaultFn, ExportDecl, ExportNamed, ExportSpecifier, Params, Body, Block, CaseBody, VarDecl, Import, Tree, node, Forest, ε, ◌⊳◌, Absent}
 use Rattle.swc_ast.specs.Scope.{has_name, param_names, body_declares}
 use Rattle.swc_ast.specs.Resolved.{one_if, has_default, params_of, body_of, function_scopes, own_scopes}
 use Rattle.swc_ast.specs.Call.{behind_key}
@@ -113,6 +113,7 @@ part_of_label : (l : Label) → is_params_or_body l ≡ part_by (frame_label l)
 unfolding part_by
 part_of_label Params = refl
 part_of_label Body = refl
+part_of_label ExportNamed = refl
 part_of_label l = refl
 
 behind_params : (l : Label) (ss : List Span) (cs ts : Forest) → is_params_or_body l ≡ false → params_of (node l ss cs ⊳ ts) ≡ params_of ts
@@ -162,6 +163,7 @@ exports_by _ = []
 export_of_label : (l : Label) → specifier_export l ≡ exports_by (frame_label l)
 unfolding exports_by
 export_of_label (ExportSpecifier x t) = refl
+export_of_label Absent = refl
 export_of_label l = refl
 
 same_specifiers : {ts us : Forest} → AllKeep ts us → specifier_exports ts ≡ specifier_exports us

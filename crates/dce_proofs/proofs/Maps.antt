@@ -5,7 +5,7 @@ use Rattle.swc_ast.specs.declared.Span.{Span}
 use Rattle.swc_ast.specs.declared.AssignOp.TheVariants.{Assign as Plain}
 use Rattle.swc_ast.specs.declared.VarDeclKind.{VarDeclKind}
 use Rattle.swc_ast.specs.declared.VarDeclKind.TheVariants.{Var, Let, Const}
-use Rattle.swc_ast.specs.Tree.{Text, Name, Label, If, While, DoWhile, Labeled, Switch, Try, Param, ExportDefaultFn, ExportDefaultExpr, NumLit, StrLit, BoolLit, NullLit, Assign, Call, Params, Body, Block, CaseBody, For, VarDecl, Declarator, FnDecl, Import, ImportNamed, ImportDefault, ImportStar, ExportDecl, Module, Script, Empty, ExprStmt, Tree, node, Forest, ε, ◌⊳◌, label_of, children_of}
+use Rattle.swc_ast.specs.Tree.{Text, Name, Label, NumLit, StrLit, BoolLit, NullLit, Assign, Call, Body, Block, CaseBody, For, VarDecl, Declarator, FnDecl, Import, ImportNamed, ImportDefault, ImportStar, ExportDecl, Empty, ExprStmt, Tree, node, Forest, ε, ◌⊳◌, label_of, children_of, expr}
 use Rattle.swc_ast.specs.Scope.{list_binds}
 use Rattle.swc_ast.specs.Resolved.{own_scopes, scopes, scopes_all}
 use Rattle.swc_ast.specs.Run.{own_texts, item_exports}
@@ -119,31 +119,8 @@ declaration_unshut : (k : VarDeclKind) (ss : List Span) (cs : Forest) → rules.
 declaration_unshut k ss cs = unshut (VarDecl k) ss cs refl (λ t ts. refl)
 
 pub inner_expression : (l : Label) → is_expression l ≡ true → is_inner l ≡ true
-inner_expression Params e = absurd (false≢true e)
-inner_expression Body e = absurd (false≢true e)
-inner_expression (Param x) e = absurd (false≢true e)
-inner_expression Block e = absurd (false≢true e)
-inner_expression If e = absurd (false≢true e)
-inner_expression While e = absurd (false≢true e)
-inner_expression DoWhile e = absurd (false≢true e)
-inner_expression For e = absurd (false≢true e)
-inner_expression (Labeled t) e = absurd (false≢true e)
-inner_expression (Switch ds) e = absurd (false≢true e)
-inner_expression CaseBody e = absurd (false≢true e)
-inner_expression (Try o) e = absurd (false≢true e)
-inner_expression (VarDecl k) e = absurd (false≢true e)
-inner_expression (Declarator k x) e = absurd (false≢true e)
-inner_expression (FnDecl x) e = absurd (false≢true e)
-inner_expression Module e = absurd (false≢true e)
-inner_expression Script e = absurd (false≢true e)
-inner_expression (Import src) e = absurd (false≢true e)
-inner_expression (ImportNamed x i) e = absurd (false≢true e)
-inner_expression (ImportDefault x) e = absurd (false≢true e)
-inner_expression (ImportStar x) e = absurd (false≢true e)
-inner_expression ExportDecl e = absurd (false≢true e)
-inner_expression (ExportDefaultFn o) e = absurd (false≢true e)
-inner_expression ExportDefaultExpr e = absurd (false≢true e)
-inner_expression l e = refl
+inner_expression (expr l) e = refl
+inner_expression _ e = absurd (false≢true e)
 
 -- a name that is left is bound nowhere in what goes
 record Unbound (G K : Name → Bool) (t : Tree) : Type 0 where

@@ -4,7 +4,7 @@ use Rattle.std.proofs.lemmas.Bool.{false≢true}
 use Rattle.swc_ast.specs.declared.Span.{Span}
 use Rattle.swc_ast.specs.declared.VarDeclKind.{VarDeclKind}
 use Rattle.swc_ast.specs.declared.AssignOp.TheVariants.{Assign as Plain}
-use Rattle.swc_ast.specs.Tree.{Name, Label, NumLit, StrLit, BoolLit, NullLit, This, Invalid, Read, Template, Array, Object, Fn, Arrow, Unary, TypeOfName, Binary, Cond, Seq, Dot, Index, Call, New, CallEval, CallDot, CallIndex, Assign, AssignDot, AssignIndex, Update, UpdateDot, UpdateIndex, Block, Body, CaseBody, VarDecl, Tree, node, Forest, ε, ◌⊳◌, label_of}
+use Rattle.swc_ast.specs.Tree.{Name, Label, Object, Assign, Block, Body, CaseBody, VarDecl, Tree, node, Forest, ε, ◌⊳◌, label_of, expr}
 use Rattle.swc_ast.specs.Meaning.{eval, evals, act, in_turn}
 use Rattle.swc_ast.specs.Value.{and_then}
 use Rattle.swc_ast.specs.Labels.{is_expression, is_block}
@@ -26,36 +26,7 @@ use Rattle.dce_proofs.proofs.Declarations.{alone_rewrites, alone_idle, alone_val
 use Rattle.dce_proofs.proofs.Objects.{called_exact}
 
 expression_nothing : (l : Label) → is_expression l ≡ true → declares_nothing l ≡ true
-expression_nothing (NumLit z) e = refl
-expression_nothing (StrLit t) e = refl
-expression_nothing (BoolLit b) e = refl
-expression_nothing NullLit e = refl
-expression_nothing This e = refl
-expression_nothing Invalid e = refl
-expression_nothing (Read x) e = refl
-expression_nothing (Template qs) e = refl
-expression_nothing (Array ks) e = refl
-expression_nothing Object e = refl
-expression_nothing (Fn o) e = refl
-expression_nothing Arrow e = refl
-expression_nothing (Unary op) e = refl
-expression_nothing (TypeOfName x) e = refl
-expression_nothing (Binary op) e = refl
-expression_nothing Cond e = refl
-expression_nothing Seq e = refl
-expression_nothing (Dot k) e = refl
-expression_nothing Index e = refl
-expression_nothing Call e = refl
-expression_nothing New e = refl
-expression_nothing (CallEval x) e = refl
-expression_nothing (CallDot k) e = refl
-expression_nothing CallIndex e = refl
-expression_nothing (Assign op x) e = refl
-expression_nothing (AssignDot op k) e = refl
-expression_nothing (AssignIndex op) e = refl
-expression_nothing (Update op prefix x) e = refl
-expression_nothing (UpdateDot op prefix k) e = refl
-expression_nothing (UpdateIndex op prefix) e = refl
+expression_nothing (expr l) e = refl
 expression_nothing _ e = absurd (false≢true e)
 
 -- `(0, r)` is `r`

@@ -2,7 +2,7 @@
 use Rattle.std.proofs.Common.{◌≡◌, ℕ, Bool, true, false, List, refl}
 use Rattle.std.proofs.lemmas.Bool.{false≢true}
 use Rattle.swc_ast.specs.declared.Span.{Span}
-use Rattle.swc_ast.specs.Tree.{Name, Label, Array, Object, Unary, TypeOfName, Binary, Cond, Seq, Dot, Index, Params, Body, Param, CaseBody, VarDecl, Declarator, FnDecl, Module, Script, Import, ImportNamed, ImportDefault, ImportStar, ExportDecl, ExportNamed, ExportSpecifier, ExportDefaultFn, ExportDefaultExpr, Block, If, While, DoWhile, For, Labeled, Switch, Try, Tree, node, Forest, label_of}
+use Rattle.swc_ast.specs.Tree.{Name, Label, Array, Object, Unary, TypeOfName, Binary, Cond, Seq, Dot, Index, Module, Script, Import, ExportDecl, ExportNamed, ExportDefaultFn, ExportDefaultExpr, Tree, node, Forest, label_of, expr}
 use Rattle.swc_ast.specs.Valid.{valid}
 use Rattle.swc_ast.specs.Core.{fits}
 use Rattle.swc_ast.specs.Weight.{is_truth_or_absent}
@@ -90,33 +90,8 @@ rewritten_no_truth Index ss cs h = refl
 rewritten_no_truth l ss cs h = absurd (false≢true h)
 
 expression_declares : (l : Label) → is_expression l ≡ true → declares_nothing l ≡ true
-expression_declares Params h = absurd (false≢true h)
-expression_declares Body h = absurd (false≢true h)
-expression_declares (Param x) h = absurd (false≢true h)
-expression_declares CaseBody h = absurd (false≢true h)
-expression_declares (VarDecl kind) h = absurd (false≢true h)
-expression_declares (Declarator kind x) h = absurd (false≢true h)
-expression_declares (FnDecl x) h = absurd (false≢true h)
-expression_declares Module h = absurd (false≢true h)
-expression_declares Script h = absurd (false≢true h)
-expression_declares (Import src) h = absurd (false≢true h)
-expression_declares (ImportNamed x i) h = absurd (false≢true h)
-expression_declares (ImportDefault x) h = absurd (false≢true h)
-expression_declares (ImportStar x) h = absurd (false≢true h)
-expression_declares ExportDecl h = absurd (false≢true h)
-expression_declares ExportNamed h = absurd (false≢true h)
-expression_declares (ExportSpecifier x i) h = absurd (false≢true h)
-expression_declares (ExportDefaultFn o) h = absurd (false≢true h)
-expression_declares ExportDefaultExpr h = absurd (false≢true h)
-expression_declares Block h = absurd (false≢true h)
-expression_declares If h = absurd (false≢true h)
-expression_declares While h = absurd (false≢true h)
-expression_declares DoWhile h = absurd (false≢true h)
-expression_declares For h = absurd (false≢true h)
-expression_declares (Labeled l) h = absurd (false≢true h)
-expression_declares (Switch ds) h = absurd (false≢true h)
-expression_declares (Try o) h = absurd (false≢true h)
-expression_declares _ h = refl
+expression_declares (expr e) h = refl
+expression_declares _ h = absurd (false≢true h)
 
 expression_no_item : (l : Label) → is_expression l ≡ true → is_item l ≡ false
 expression_no_item (Import src) h = absurd (false≢true h)

@@ -215,6 +215,8 @@ module _ {a : Answers} (sp : Spanless a) where
   parts_gather (tree.Switch ds) ss (t ⊳ ts) is r e w = ap (λ b. (node (tree.Switch ds) ss b.0, b.1)) (turn w is)
   parts_gather (tree.Try (Some o)) ss (b ⊳ c ⊳ d ⊳ ε) is r e w = ap (under (tree.Try (Some o)) ss) (turn w is)
   parts_gather (tree.Try o) ss cs is r e w = ap (under (tree.Try o) ss) (turn w is)
+  parts_gather tree.Absent ss cs is r e w = ap (under tree.Absent ss) (turn w is)
+  parts_gather (tree.FnDecl x0) ss cs is r e w = ap (under (tree.FnDecl x0) ss) (turn w is)
   parts_gather l ss cs is r e w = ap (under l ss) (turn w is)
 
   one_gather : (l : Label) (ss : List Span) (cs : Forest) → fine l ss cs ≡ true → Each G cs → G (node l ss cs)

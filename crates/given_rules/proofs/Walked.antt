@@ -126,6 +126,7 @@ module _ {X : Puts} (told : Told X) where
   around_bare (tree.Unary op.Void) ss cs us e = refl
   around_bare (tree.Unary op.Delete) ss cs us e = refl
   around_bare (tree.Shorthand x) ss cs us e = property_bare (X.property x) x ss _ refl
+  around_bare tree.ExportNamed ss cs us e = refl
   around_bare l ss cs us e = refl
 
   around_name : (l : Label) (ss : List Span) (cs us : Forest) → is_name (node l ss cs) ≡ false → is_name (around X l ss cs us) ≡ false
@@ -150,6 +151,7 @@ module _ {X : Puts} (told : Told X) where
   around_name (tree.Unary op.Void) ss cs us e = refl
   around_name (tree.Unary op.Delete) ss cs us e = refl
   around_name (tree.Shorthand x) ss cs us e = property_name (X.property x) x ss _ refl
+  around_name tree.ExportNamed ss cs us e = refl
   around_name l ss cs us e = refl
 
   -- what may be called bare may still be, once something is put in its places

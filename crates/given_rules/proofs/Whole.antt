@@ -262,6 +262,7 @@ module _ {a : Answers} (mark : ℕ) (h : Leaves a) (k : ℕ) (os : Owners) (e : 
   other_exports (Shorthand x) ss cs ds us ts d v = absurd (true≢false d)
   other_exports (Unary op) ss cs ds us ts d v = absurd (true≢false d)
   other_exports (VarDecl j) ss cs ds us ts d v = absurd (true≢false v)
+  other_exports ExportNamed ss cs ds us ts d v = refl
   other_exports l ss cs ds us ts d v = refl
 
   one_export : (l : Label) (ss : List Span) (ds ts : Forest) → is_known has (own_found a l ds) ≡ true → is_var_declaration l ≡ false → item_exports ExportDecl (owned os (node l ss ds) ⊳ ε) ≡ item_exports ExportDecl (put X here (node l ss ds) ⊳ ts)

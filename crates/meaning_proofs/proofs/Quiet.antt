@@ -3,7 +3,7 @@ use Rattle.std.proofs.Common.{◌≡◌, ℕ, ℤ, Bool, true, false, List, [], 
 use Rattle.std.proofs.lemmas.Bool.{false≢true}
 use Rattle.swc_ast.specs.declared.Span.{Span}
 use Rattle.swc_ast.specs.declared.UnaryOp.TheVariants.{Void}
-use Rattle.swc_ast.specs.Tree.{Text, Label, NumLit, StrLit, BoolLit, NullLit, Unary, Params, Body, Param, CaseBody, VarDecl, Declarator, FnDecl, Module, Script, Import, ImportNamed, ImportDefault, ImportStar, ExportDecl, ExportNamed, ExportSpecifier, ExportDefaultFn, ExportDefaultExpr, Block, If, While, DoWhile, For, Labeled, Switch, Try, Tree, node, ε, ◌⊳◌, label_of}
+use Rattle.swc_ast.specs.Tree.{Text, Label, NumLit, StrLit, BoolLit, NullLit, Unary, Tree, node, ε, ◌⊳◌, label_of, expr, prop, simple, Absent}
 use Rattle.swc_ast.specs.Value.{Value, Num, Text as TextValue, Truth, Null, Undefined, State, Done, and_then, Context}
 use Rattle.swc_ast.specs.Operators.{unary_value}
 use Rattle.swc_ast.specs.Scope.{has_name, found, is_found, vars, declared_by}
@@ -13,33 +13,11 @@ use Rattle.meaning_proofs.specs.Roles.{is_part, holds_function, Fits, changed}
 
 -- neither a part, nor a declaration, nor a node that holds statements
 abbrev pub declares_nothing : Label → Bool
-declares_nothing Params = false
-declares_nothing Body = false
-declares_nothing (Param x) = false
-declares_nothing CaseBody = false
-declares_nothing (VarDecl kind) = false
-declares_nothing (Declarator kind x) = false
-declares_nothing (FnDecl x) = false
-declares_nothing Module = false
-declares_nothing Script = false
-declares_nothing (Import src) = false
-declares_nothing (ImportNamed x i) = false
-declares_nothing (ImportDefault x) = false
-declares_nothing (ImportStar x) = false
-declares_nothing ExportDecl = false
-declares_nothing ExportNamed = false
-declares_nothing (ExportSpecifier x i) = false
-declares_nothing (ExportDefaultFn o) = false
-declares_nothing ExportDefaultExpr = false
-declares_nothing Block = false
-declares_nothing If = false
-declares_nothing While = false
-declares_nothing DoWhile = false
-declares_nothing For = false
-declares_nothing (Labeled l) = false
-declares_nothing (Switch ds) = false
-declares_nothing (Try o) = false
-declares_nothing _ = true
+declares_nothing (expr e) = true
+declares_nothing (prop p) = true
+declares_nothing (simple s) = true
+declares_nothing Absent = true
+declares_nothing _ = false
 
 -- what such a tree declares
 pub record Nothing (t : Tree) : Type 0 where
@@ -49,33 +27,11 @@ pub record Nothing (t : Tree) : Type 0 where
   pub copied : copied_names t ≡ []
 
 pub nothing_of : (t : Tree) → declares_nothing (label_of t) ≡ true → Nothing t
-nothing_of (node Params ss cs) e = absurd (false≢true e)
-nothing_of (node Body ss cs) e = absurd (false≢true e)
-nothing_of (node (Param x) ss cs) e = absurd (false≢true e)
-nothing_of (node CaseBody ss cs) e = absurd (false≢true e)
-nothing_of (node (VarDecl kind) ss cs) e = absurd (false≢true e)
-nothing_of (node (Declarator kind x) ss cs) e = absurd (false≢true e)
-nothing_of (node (FnDecl x) ss cs) e = absurd (false≢true e)
-nothing_of (node Module ss cs) e = absurd (false≢true e)
-nothing_of (node Script ss cs) e = absurd (false≢true e)
-nothing_of (node (Import src) ss cs) e = absurd (false≢true e)
-nothing_of (node (ImportNamed x i) ss cs) e = absurd (false≢true e)
-nothing_of (node (ImportDefault x) ss cs) e = absurd (false≢true e)
-nothing_of (node (ImportStar x) ss cs) e = absurd (false≢true e)
-nothing_of (node ExportDecl ss cs) e = absurd (false≢true e)
-nothing_of (node ExportNamed ss cs) e = absurd (false≢true e)
-nothing_of (node (ExportSpecifier x i) ss cs) e = absurd (false≢true e)
-nothing_of (node (ExportDefaultFn o) ss cs) e = absurd (false≢true e)
-nothing_of (node ExportDefaultExpr ss cs) e = absurd (false≢true e)
-nothing_of (node Block ss cs) e = absurd (false≢true e)
-nothing_of (node If ss cs) e = absurd (false≢true e)
-nothing_of (node While ss cs) e = absurd (false≢true e)
-nothing_of (node DoWhile ss cs) e = absurd (false≢true e)
-nothing_of (node For ss cs) e = absurd (false≢true e)
-nothing_of (node (Labeled l) ss cs) e = absurd (false≢true e)
-nothing_of (node (Switch ds) ss cs) e = absurd (false≢true e)
-nothing_of (node (Try o) ss cs) e = absurd (false≢true e)
-nothing_of (node _ ss cs) e = record { is_no_part = refl; vars = refl; declares = refl; copied = refl }
+nothing_of (node (expr l) ss cs) e = record { is_no_part = refl; vars = refl; declares = refl; copied = refl }
+nothing_of (node (prop l) ss cs) e = record { is_no_part = refl; vars = refl; declares = refl; copied = refl }
+nothing_of (node (simple l) ss cs) e = record { is_no_part = refl; vars = refl; declares = refl; copied = refl }
+nothing_of (node Absent ss cs) e = record { is_no_part = refl; vars = refl; declares = refl; copied = refl }
+nothing_of (node _ ss cs) e = absurd (false≢true e)
 
 -- trees that declare nothing fit
 pub fits_nothing : {N : Names} (t u : Tree) → declares_nothing (label_of t) ≡ true → declares_nothing (label_of u) ≡ true → Fits N t u

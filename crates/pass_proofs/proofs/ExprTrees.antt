@@ -3,7 +3,7 @@ use Rattle.std.proofs.Common.{◌≡◌, ◌≤◌, true, subst, sym, arith, ref
 use Rattle.swc_ast.specs.declared.declarations.Decl.TheOpen as Open
 use Rattle.swc_ast.specs.declared.declarations.Decl.TheViews.{out-Expr, roll-out-Expr}
 use Rattle.swc_ast.specs.declared.expressions.Expr.{Expr}
-use Rattle.swc_ast.specs.Tree.{Label, NumLit, StrLit, BoolLit, NullLit, This, Invalid, Read, Template, Array, Object, Fn, Arrow, Unary, TypeOfName, Binary, Cond, Seq, Dot, Index, Call, New, CallEval, CallDot, CallIndex, Assign, AssignDot, AssignIndex, Update, UpdateDot, UpdateIndex, label_of}
+use Rattle.swc_ast.specs.Tree.{Label, label_of, expr}
 use Rattle.swc_ast.specs.Views.{expr_tree}
 use Rattle.swc_ast.proofs.ApartExpressions.{ExprForm, expr_form, expr_number, expr_at}
 use Rattle.swc_ast.specs.Labels.{is_expression}
@@ -13,36 +13,7 @@ numbered (Open.This n) = omega arith
 numbered _ = omega arith
 
 formed : (l : Label) → 1 ≤ expr_form l → is_expression l ≡ true
-formed (NumLit z) h = refl
-formed (StrLit t) h = refl
-formed (BoolLit b) h = refl
-formed NullLit h = refl
-formed This h = refl
-formed Invalid h = refl
-formed (Read x) h = refl
-formed (Template qs) h = refl
-formed (Array ks) h = refl
-formed Object h = refl
-formed (Fn o) h = refl
-formed Arrow h = refl
-formed (Unary op) h = refl
-formed (TypeOfName x) h = refl
-formed (Binary op) h = refl
-formed Cond h = refl
-formed Seq h = refl
-formed (Dot k) h = refl
-formed Index h = refl
-formed Call h = refl
-formed New h = refl
-formed (CallEval x) h = refl
-formed (CallDot k) h = refl
-formed CallIndex h = refl
-formed (Assign op x) h = refl
-formed (AssignDot op k) h = refl
-formed (AssignIndex op) h = refl
-formed (Update op prefix x) h = refl
-formed (UpdateDot op prefix k) h = refl
-formed (UpdateIndex op prefix) h = refl
+formed (expr e) h = refl
 formed _ h = absurd (omega (arith, h))
 
 pub is_an_expression : (e : Expr) → is_expression (label_of (expr_tree e)) ≡ true

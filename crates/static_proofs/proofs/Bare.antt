@@ -1,6 +1,6 @@
 -- Spans weigh nothing, so a walk that changes spans alone changes nothing.
 use Rattle.std.proofs.Common.{Some, None, ◌≡◌, suc, ◌+◌, ◌*◌, ◌<◌, if◌then◌else◌, refl, ap, ap₂, ◌∙◌, arith, ◌⊎◌, inl, inr}
-use Rattle.swc_ast.specs.Tree.{Label, BoolLit, Absent, Param, Try, While, For, Tree, node, Forest, ε, ◌⊳◌, bare, bares}
+use Rattle.swc_ast.specs.Tree.{Label, BoolLit, Absent, Param, Try, While, For, Tree, node, Forest, ε, ◌⊳◌, bare, bares, This, Method, Empty, FnDecl, ExportNamed}
 use Rattle.swc_ast.specs.Weight.{own_weight, test_weight, list_weight, weight, weight_all, is_list, is_stopper, stays_behind, movable, unreached, is_truth_or_absent}
 use Rattle.static_proofs.specs.Lighter.{Weighed}
 
@@ -10,6 +10,11 @@ own_bare (Param x) ε = refl
 own_bare (Param x) (t ⊳ ts) = refl
 own_bare (Try None) ts = refl
 own_bare (Try (Some o)) ts = refl
+own_bare This ts = refl
+own_bare Method ts = refl
+own_bare Empty ts = refl
+own_bare (FnDecl x0) ts = refl
+own_bare ExportNamed ts = refl
 own_bare l ts = refl
 
 truth_bare : (t : Tree) → is_truth_or_absent (bare t) ≡ is_truth_or_absent t

@@ -3,7 +3,7 @@ use Rattle.std.proofs.Common.{◌≡◌, ◌+◌, ◌*◌, if◌then◌else◌, 
 use Rattle.std.proofs.lemmas.Bool.{false≢true}
 use Rattle.swc_ast.specs.Labels.{is_expression}
 use Rattle.swc_ast.specs.declared.Span.{Span}
-use Rattle.swc_ast.specs.Tree.{Name, Label, NumLit, StrLit, BoolLit, NullLit, This, Invalid, Read, Template, Array, Object, Fn, Arrow, Unary, TypeOfName, Binary, Cond, Seq, Dot, Index, Call, New, CallEval, CallDot, CallIndex, Assign, AssignDot, AssignIndex, Update, UpdateDot, UpdateIndex, Tree, node, Forest, ε, ◌⊳◌, label_of}
+use Rattle.swc_ast.specs.Tree.{Name, Label, Tree, node, Forest, ε, ◌⊳◌, label_of, expr}
 use Rattle.swc_ast.specs.Scope.{vars}
 use Rattle.swc_ast.specs.Valid.{valid}
 use Rattle.swc_ast.specs.Core.{fits}
@@ -31,36 +31,7 @@ quiet : {t : Tree} → vars t ≡ [] → is_stopper t ≡ false → stays_behind
 quiet a b c d e = record { no_vars = a; no_stopper = b; no_stay = c; no_list = d; out = e }
 
 pub expression_quiet : (t : Tree) → is_expression (label_of t) ≡ true → Quiet t
-expression_quiet (node (NumLit z) ss cs) h = quiet refl refl refl refl refl
-expression_quiet (node (StrLit t) ss cs) h = quiet refl refl refl refl refl
-expression_quiet (node (BoolLit b) ss cs) h = quiet refl refl refl refl refl
-expression_quiet (node NullLit ss cs) h = quiet refl refl refl refl refl
-expression_quiet (node This ss cs) h = quiet refl refl refl refl refl
-expression_quiet (node Invalid ss cs) h = quiet refl refl refl refl refl
-expression_quiet (node (Read x) ss cs) h = quiet refl refl refl refl refl
-expression_quiet (node (Template qs) ss cs) h = quiet refl refl refl refl refl
-expression_quiet (node (Array ks) ss cs) h = quiet refl refl refl refl refl
-expression_quiet (node Object ss cs) h = quiet refl refl refl refl refl
-expression_quiet (node (Fn o) ss cs) h = quiet refl refl refl refl refl
-expression_quiet (node Arrow ss cs) h = quiet refl refl refl refl refl
-expression_quiet (node (Unary op) ss cs) h = quiet refl refl refl refl refl
-expression_quiet (node (TypeOfName x) ss cs) h = quiet refl refl refl refl refl
-expression_quiet (node (Binary op) ss cs) h = quiet refl refl refl refl refl
-expression_quiet (node Cond ss cs) h = quiet refl refl refl refl refl
-expression_quiet (node Seq ss cs) h = quiet refl refl refl refl refl
-expression_quiet (node (Dot k) ss cs) h = quiet refl refl refl refl refl
-expression_quiet (node Index ss cs) h = quiet refl refl refl refl refl
-expression_quiet (node Call ss cs) h = quiet refl refl refl refl refl
-expression_quiet (node New ss cs) h = quiet refl refl refl refl refl
-expression_quiet (node (CallEval x) ss cs) h = quiet refl refl refl refl refl
-expression_quiet (node (CallDot k) ss cs) h = quiet refl refl refl refl refl
-expression_quiet (node CallIndex ss cs) h = quiet refl refl refl refl refl
-expression_quiet (node (Assign op x) ss cs) h = quiet refl refl refl refl refl
-expression_quiet (node (AssignDot op k) ss cs) h = quiet refl refl refl refl refl
-expression_quiet (node (AssignIndex op) ss cs) h = quiet refl refl refl refl refl
-expression_quiet (node (Update op prefix x) ss cs) h = quiet refl refl refl refl refl
-expression_quiet (node (UpdateDot op prefix k) ss cs) h = quiet refl refl refl refl refl
-expression_quiet (node (UpdateIndex op prefix) ss cs) h = quiet refl refl refl refl refl
+expression_quiet (node (expr e) ss cs) h = quiet refl refl refl refl refl
 expression_quiet (node l ss cs) h = absurd (false≢true h)
 
 -- a step whose node is no list has no surplus

@@ -2,7 +2,7 @@
 use Rattle.std.proofs.Common.{Some, None, ◌≡◌, ◌+◌, ◌*◌, ◌≤◌, ◌<◌, Bool, true, false, if◌then◌else◌, List, refl, sym, ap, subst, ◌∙◌, arith, ◌⊎◌, inl, inr}
 use Rattle.std.proofs.lemmas.Bool.{false≢true}
 use Rattle.swc_ast.specs.declared.Span.{Span}
-use Rattle.swc_ast.specs.Tree.{Label, BoolLit, Absent, Param, Try, While, For, Tree, node, Forest}
+use Rattle.swc_ast.specs.Tree.{Label, BoolLit, Absent, Param, Try, While, For, Tree, node, Forest, This, Method, Empty, FnDecl, ExportNamed}
 use Rattle.swc_ast.specs.Weight.{own_weight, test_weight, weight, weight_all, is_list, is_stopper, stays_behind, unreached, is_truth_or_absent}
 use Rattle.static_proofs.specs.Lighter.{base_weight, is_settled, Lowers, Weighed, AllWeighed, none_weighed, more_weighed}
 use Rattle.static_proofs.specs.Walks.{then, Leaves, AllLeave, closed, opened, stands, steps, none_left, more_left}
@@ -14,6 +14,11 @@ own_same (Param x) none_weighed = refl
 own_same (Param x) (more_weighed k ks) = refl
 own_same (Try None) ks = refl
 own_same (Try (Some o)) ks = refl
+own_same This ks = refl
+own_same Method ks = refl
+own_same Empty ks = refl
+own_same (FnDecl x0) ks = refl
+own_same ExportNamed ks = refl
 own_same l ks = refl
 
 test_one : (a b : Bool) → (a ≡ true → b ≡ true) → (if b then 0 else 3) ≤ (if a then 0 else 3)

@@ -5,7 +5,7 @@ use Rattle.swc_ast.specs.Labels.{is_declaration, is_params, is_body, is_param}
 use Rattle.swc_ast.specs.declared.Span.{Span}
 use Rattle.swc_ast.specs.declared.VarDeclKind.{VarDeclKind}
 use Rattle.swc_ast.specs.declared.VarDeclKind.TheVariants.{Var, Let, Const}
-use Rattle.swc_ast.specs.Tree.{Name, Label, Fn, Arrow, Method, FnDecl, ExportDefaultFn, ExportDecl, Import, If, While, DoWhile, For, Labeled, Try, Params, Body, Block, Switch, CaseBody, VarDecl, Module, Script, Tree, node, Forest, ε, ◌⊳◌, label_of, children_of}
+use Rattle.swc_ast.specs.Tree.{Name, Label, Fn, Arrow, Method, FnDecl, ExportDefaultFn, ExportDecl, Import, If, While, DoWhile, For, Labeled, Try, Params, Body, Block, Switch, CaseBody, VarDecl, Module, Script, Tree, node, Forest, ε, ◌⊳◌, label_of, children_of, ExportNamed}
 use Rattle.swc_ast.specs.Scope.{has_name, option_name, vars_all, declarator_names, declared, as_lexicals, list_binds, param_names, body_declares, import_names, module_binds, body_statements, case_statements}
 use Rattle.swc_ast.specs.Resolved.{first_names, one_if, has_default, params_of, body_of, function_scopes, own_scopes, scopes, scopes_all}
 use Rattle.swc_ast.specs.Core.{times_in, once_each, none_in, list_names, good_list, good_body, good_scope, numbers_fit, fits, fits_all}
@@ -140,6 +140,7 @@ data FunctionLost (x : Name) (ts us : Forest) : Type 0 where
 -- the frame of a tree that is no body
 no_body : (l : Label) → (is_params l || is_inner l) ≡ true → is_body_frame (frame_label l) ≡ false
 no_body Body e = absurd (false≢true e)
+no_body ExportNamed e = refl
 no_body l e = refl
 
 body_later : (t : Tree) (ts : Forest) → is_body_frame (frame t) ≡ false → body_of (t ⊳ ts) ≡ body_of ts

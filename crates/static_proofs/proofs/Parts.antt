@@ -1,7 +1,7 @@
 -- What a parent reads of its children's names, where each child is kept.
 use Rattle.std.proofs.Common.{◌≡◌, suc, ◌≤◌, Bool, true, false, not, ◌||◌, if◌then◌else◌, List, [], ◌∷◌, ◌++◌, Option, Some, refl, sym, ap, ap₂, subst, ◌∙◌, arith, append_assoc, ◌⊎◌, inl, inr}
 use Rattle.std.proofs.lemmas.Bool.{and_parts, and_from, or_cases, or_left, or_right, false≢true}
-use Rattle.swc_ast.specs.Tree.{Name, Label, Params, Body, CaseBody, Param, Absent, Declarator, Import, ImportNamed, ImportDefault, ImportStar, Tree, node, Forest, ε, ◌⊳◌, children_of}
+use Rattle.swc_ast.specs.Tree.{Name, Label, Params, Body, CaseBody, Param, Absent, Declarator, Import, ImportNamed, ImportDefault, ImportStar, Tree, node, Forest, ε, ◌⊳◌, children_of, ExportNamed}
 use Rattle.swc_ast.specs.Scope.{vars, vars_all, declared_by, declared, declarator_name, declarator_names, param_name, param_names, imported_name, specifier_names, import_names_of, import_names, joined, body_statements, case_statements}
 use Rattle.swc_ast.specs.Meaning.{head_names, first_tree}
 use Rattle.swc_ast.specs.Valid.{count, is_absent, is_last_absent, is_listed, none_listed, last_not_listed, valid, valid_all}
@@ -40,6 +40,7 @@ params_by _ = []
 
 params_of_label : (l : Label) → param_name l ≡ params_by (frame_label l)
 params_of_label (Param x) = refl
+params_of_label ExportNamed = refl
 params_of_label l = refl
 
 pub all_params : {ts us : Forest} → AllKeep ts us → param_names us ≡ param_names ts
@@ -53,6 +54,7 @@ defaults_by _ cs = false
 default_cons : (t : Tree) (ts : Forest) → has_default (t ⊳ ts) ≡ (defaults_by (frame t) (children_of t) || has_default ts)
 default_cons (node (Param x) ss ε) ts = refl
 default_cons (node (Param x) ss (d ⊳ ds)) ts = refl
+default_cons (node ExportNamed ss cs) ts = refl
 default_cons (node l ss cs) ts = refl
 
 defaults_kept : (f : Option Label) (cs ds : Forest) → KeptPart f cs ds → defaults_by f ds ≡ true → defaults_by f cs ≡ true
@@ -80,6 +82,7 @@ declarators_by _ = []
 
 declarators_of_label : (l : Label) → declarator_name l ≡ declarators_by (frame_label l)
 declarators_of_label (Declarator kind x) = refl
+declarators_of_label ExportNamed = refl
 declarators_of_label l = refl
 
 pub all_declarators : {ts us : Forest} → AllKeep ts us → declarator_names us ≡ declarator_names ts
@@ -96,6 +99,7 @@ specifiers_of_label : (l : Label) → imported_name l ≡ specifiers_by (frame_l
 specifiers_of_label (ImportNamed x i) = refl
 specifiers_of_label (ImportDefault x) = refl
 specifiers_of_label (ImportStar x) = refl
+specifiers_of_label Absent = refl
 specifiers_of_label l = refl
 
 pub all_specifiers : {ts us : Forest} → AllKeep ts us → specifier_names us ≡ specifier_names ts
@@ -108,6 +112,7 @@ imports_by _ cs = []
 
 imports_of_label : (l : Label) (cs : Forest) → import_names_of l cs ≡ imports_by (frame_label l) cs
 imports_of_label (Import src) cs = refl
+imports_of_label Absent cs = refl
 imports_of_label l cs = refl
 
 imports_kept : (f : Option Label) (cs ds : Forest) → KeptPart f cs ds → Fewer (imports_by f ds) (imports_by f cs)
@@ -130,10 +135,12 @@ is_body_frame _ = false
 
 params_cons : (t : Tree) (ts : Forest) → params_of (t ⊳ ts) ≡ (if is_params_frame (frame t) then children_of t else params_of ts)
 params_cons (node Params ss cs) ts = refl
+params_cons (node ExportNamed ss cs) ts = refl
 params_cons (node l ss cs) ts = refl
 
 pub body_cons : (t : Tree) (ts : Forest) → body_of (t ⊳ ts) ≡ (if is_body_frame (frame t) then children_of t else body_of ts)
 body_cons (node Body ss cs) ts = refl
+body_cons (node ExportNamed ss cs) ts = refl
 body_cons (node l ss cs) ts = refl
 
 pick_params : (f : Option Label) (cs ds ps qs : Forest) → KeptPart f cs ds → KeptParams ps qs → KeptParams (if is_params_frame f then cs else ps) (if is_params_frame f then ds else qs)
@@ -168,6 +175,7 @@ cases_by _ cs = ε
 
 cases_of_label : (l : Label) (cs : Forest) → body_statements l cs ≡ cases_by (frame_label l) cs
 cases_of_label CaseBody cs = refl
+cases_of_label ExportNamed cs = refl
 cases_of_label l cs = refl
 
 kept_empty : KeptList ε ε
@@ -199,6 +207,7 @@ absent_by _ = false
 
 absent_of : (t : Tree) → is_absent t ≡ absent_by (frame t)
 absent_of (node Absent ss cs) = refl
+absent_of (node ExportNamed ss cs) = refl
 absent_of (node l ss cs) = refl
 
 pub absent_kept : {t u : Tree} → Keeps t u → is_absent u ≡ is_absent t

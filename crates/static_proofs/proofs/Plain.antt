@@ -3,7 +3,7 @@ use Rattle.std.proofs.Common.{◌≡◌, ◌≤◌, true, false, [], Option, Non
 use Rattle.std.proofs.lemmas.Bool.{false≢true}
 use Rattle.swc_ast.specs.Labels.{is_expression}
 use Rattle.swc_ast.specs.declared.VarDeclKind.TheVariants.{Var}
-use Rattle.swc_ast.specs.Tree.{Name, Label, NumLit, StrLit, BoolLit, NullLit, This, Invalid, Read, Template, Array, Object, Fn, Arrow, Unary, TypeOfName, Binary, Cond, Seq, Dot, Index, Call, New, CallEval, CallDot, CallIndex, Assign, AssignDot, AssignIndex, Update, UpdateDot, UpdateIndex, Block, Empty, Throw, ExprStmt, Return, If, While, DoWhile, For, Labeled, Break, Continue, Switch, Try, VarDecl, Tree, node, Forest, label_of, children_of}
+use Rattle.swc_ast.specs.Tree.{Name, Label, VarDecl, Tree, node, Forest, label_of, children_of, expr, simple, holder}
 use Rattle.swc_ast.specs.Scope.{vars}
 use Rattle.swc_ast.specs.Valid.{valid, is_listed}
 use Rattle.swc_ast.specs.Resolved.{scopes, Targets, aimed, apart, own_exports_bound}
@@ -28,53 +28,12 @@ plain : {t : Tree} → names_of t ≡ [] → own_names t ≡ [] → frame t ≡ 
 plain a b c d e f = record { no_names = a; no_own = b; no_frame = c; not_listed = d; no_exports = e; exports_hold = f }
 
 pub expression_plain : (t : Tree) → is_expression (label_of t) ≡ true → Plain t
-expression_plain (node (NumLit z) ss cs) h = plain refl refl refl refl refl refl
-expression_plain (node (StrLit t) ss cs) h = plain refl refl refl refl refl refl
-expression_plain (node (BoolLit b) ss cs) h = plain refl refl refl refl refl refl
-expression_plain (node NullLit ss cs) h = plain refl refl refl refl refl refl
-expression_plain (node This ss cs) h = plain refl refl refl refl refl refl
-expression_plain (node Invalid ss cs) h = plain refl refl refl refl refl refl
-expression_plain (node (Read x) ss cs) h = plain refl refl refl refl refl refl
-expression_plain (node (Template qs) ss cs) h = plain refl refl refl refl refl refl
-expression_plain (node (Array ks) ss cs) h = plain refl refl refl refl refl refl
-expression_plain (node Object ss cs) h = plain refl refl refl refl refl refl
-expression_plain (node (Fn o) ss cs) h = plain refl refl refl refl refl refl
-expression_plain (node Arrow ss cs) h = plain refl refl refl refl refl refl
-expression_plain (node (Unary op) ss cs) h = plain refl refl refl refl refl refl
-expression_plain (node (TypeOfName x) ss cs) h = plain refl refl refl refl refl refl
-expression_plain (node (Binary op) ss cs) h = plain refl refl refl refl refl refl
-expression_plain (node Cond ss cs) h = plain refl refl refl refl refl refl
-expression_plain (node Seq ss cs) h = plain refl refl refl refl refl refl
-expression_plain (node (Dot k) ss cs) h = plain refl refl refl refl refl refl
-expression_plain (node Index ss cs) h = plain refl refl refl refl refl refl
-expression_plain (node Call ss cs) h = plain refl refl refl refl refl refl
-expression_plain (node New ss cs) h = plain refl refl refl refl refl refl
-expression_plain (node (CallEval x) ss cs) h = plain refl refl refl refl refl refl
-expression_plain (node (CallDot k) ss cs) h = plain refl refl refl refl refl refl
-expression_plain (node CallIndex ss cs) h = plain refl refl refl refl refl refl
-expression_plain (node (Assign op x) ss cs) h = plain refl refl refl refl refl refl
-expression_plain (node (AssignDot op k) ss cs) h = plain refl refl refl refl refl refl
-expression_plain (node (AssignIndex op) ss cs) h = plain refl refl refl refl refl refl
-expression_plain (node (Update op prefix x) ss cs) h = plain refl refl refl refl refl refl
-expression_plain (node (UpdateDot op prefix k) ss cs) h = plain refl refl refl refl refl refl
-expression_plain (node (UpdateIndex op prefix) ss cs) h = plain refl refl refl refl refl refl
+expression_plain (node (expr e) ss cs) h = plain refl refl refl refl refl refl
 expression_plain (node l ss cs) h = absurd (false≢true h)
 
 pub statement_plain : (t : Tree) → is_plain_statement (label_of t) ≡ true → Plain t
-statement_plain (node Block ss cs) h = plain refl refl refl refl refl refl
-statement_plain (node Empty ss cs) h = plain refl refl refl refl refl refl
-statement_plain (node Throw ss cs) h = plain refl refl refl refl refl refl
-statement_plain (node ExprStmt ss cs) h = plain refl refl refl refl refl refl
-statement_plain (node Return ss cs) h = plain refl refl refl refl refl refl
-statement_plain (node If ss cs) h = plain refl refl refl refl refl refl
-statement_plain (node While ss cs) h = plain refl refl refl refl refl refl
-statement_plain (node DoWhile ss cs) h = plain refl refl refl refl refl refl
-statement_plain (node For ss cs) h = plain refl refl refl refl refl refl
-statement_plain (node (Labeled t) ss cs) h = plain refl refl refl refl refl refl
-statement_plain (node (Break o) ss cs) h = plain refl refl refl refl refl refl
-statement_plain (node (Continue o) ss cs) h = plain refl refl refl refl refl refl
-statement_plain (node (Switch ds) ss cs) h = plain refl refl refl refl refl refl
-statement_plain (node (Try o) ss cs) h = plain refl refl refl refl refl refl
+statement_plain (node (simple s) ss cs) h = plain refl refl refl refl refl refl
+statement_plain (node (holder l) ss cs) h = plain refl refl refl refl refl refl
 statement_plain (node (VarDecl Var) ss cs) h = plain refl refl refl refl refl refl
 statement_plain (node l ss cs) h = absurd (false≢true h)
 

@@ -3,7 +3,7 @@ use Rattle.std.proofs.Common.{◌≡◌, Bool, true, false, ◌||◌, if◌then�
 use Rattle.std.proofs.lemmas.Bool.{and_parts, and_from, or_cases, or_left, or_right, false≢true}
 use Rattle.swc_ast.specs.declared.Span.{Span}
 use Rattle.swc_ast.specs.declared.VarDeclKind.TheVariants.{Var, Let, Const}
-use Rattle.swc_ast.specs.Tree.{Name, same_name, Label, Import, ImportNamed, ImportDefault, ImportStar, ExportNamed, ExportSpecifier, ExportDecl, FnDecl, ExportDefaultFn, ExportDefaultExpr, VarDecl, Declarator, Module, Tree, node, Forest, ε, ◌⊳◌, children_of}
+use Rattle.swc_ast.specs.Tree.{Name, same_name, Label, Import, ImportNamed, ImportDefault, ImportStar, ExportNamed, ExportSpecifier, ExportDecl, FnDecl, ExportDefaultFn, ExportDefaultExpr, VarDecl, Declarator, Module, Tree, node, Forest, ε, ◌⊳◌, children_of, Absent}
 use Rattle.swc_ast.specs.Scope.{has_name, vars_all, own_vars, holds_statements, declared, declared_by_label, as_lexicals, declarator_name, declarator_names, imported_name, specifier_names, import_names_of, import_names, list_binds, body_declares, module_binds}
 use Rattle.swc_ast.specs.Resolved.{first_names, specifier_bound, exports_bound, own_exports_bound}
 use Rattle.swc_ast.specs.Core.{list_names}
@@ -50,6 +50,7 @@ declarators_by _ = []
 
 declarators_of_label : (l : Label) → declarator_name l ≡ declarators_by (frame_label l)
 declarators_of_label (Declarator kind x) = refl
+declarators_of_label ExportNamed = refl
 declarators_of_label l = refl
 
 same_declarators : {P : Name → Type 0} {ts us : Forest} → AllSpare P ts us → declarator_names ts ≡ declarator_names us
@@ -66,6 +67,7 @@ specifiers_of_label : (l : Label) → imported_name l ≡ specifiers_by (frame_l
 specifiers_of_label (ImportNamed x i) = refl
 specifiers_of_label (ImportDefault x) = refl
 specifiers_of_label (ImportStar x) = refl
+specifiers_of_label Absent = refl
 specifiers_of_label l = refl
 
 same_specifiers : {P : Name → Type 0} {ts us : Forest} → AllSpare P ts us → specifier_names ts ≡ specifier_names us
@@ -78,6 +80,7 @@ exported_by _ = []
 
 exported_of_label : (l : Label) → export_name l ≡ exported_by (frame_label l)
 exported_of_label (ExportSpecifier x i) = refl
+exported_of_label Absent = refl
 exported_of_label l = refl
 
 same_exported : {P : Name → Type 0} {ts us : Forest} → AllSpare P ts us → export_names us ≡ export_names ts
@@ -90,6 +93,7 @@ imports_in _ cs = []
 
 imports_of_label : (l : Label) (cs : Forest) → import_names_of l cs ≡ imports_in (frame_label l) cs
 imports_of_label (Import src) cs = refl
+imports_of_label Absent cs = refl
 imports_of_label l cs = refl
 
 imports_spared : {P : Name → Type 0} (f : Option Label) (cs ds : Forest) → SparedPart P f cs ds → Spared P (imports_in f cs) (imports_in f ds)
@@ -106,6 +110,7 @@ exports_in _ cs = []
 
 exports_of_label : (l : Label) (cs : Forest) → exports_by l cs ≡ exports_in (frame_label l) cs
 exports_of_label ExportNamed cs = refl
+exports_of_label Absent cs = refl
 exports_of_label l cs = refl
 
 exports_within : (P : Name → Type 0) (f : Option Label) (cs ds : Forest) → SparedPart P f cs ds → Within (exports_in f ds) (exports_in f cs)
@@ -182,6 +187,7 @@ names_inside l ss ks = names_by_label l ss ks
 part_inside : {P : Name → Type 0} (l : Label) {ts us : Forest} → AllSpare P ts us → SparedPart P (frame_label l) ts us
 part_inside (Import src) ks = spared_path (same_specifiers ks)
 part_inside ExportNamed {ts} {us} ks = subst (λ z. Within z (export_names ts)) (sym (same_exported ks)) (within_same _)
+part_inside Absent ks = tt
 part_inside l ks = tt
 
 exports_inside : {P : Name → Type 0} (l : Label) (ss : List Span) {ts us : Forest} → AllSpare P ts us → Within (exports_of (node l ss us)) (exports_of (node l ss ts))

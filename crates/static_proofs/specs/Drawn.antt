@@ -2,7 +2,7 @@
 use Rattle.std.specs.Prelude.{◌≡◌, Bool, true, false, List}
 use Rattle.swc_ast.specs.declared.Span.{Span}
 use Rattle.swc_ast.specs.declared.VarDeclKind.TheVariants.{Var}
-use Rattle.swc_ast.specs.Tree.{Label, Block, Empty, Throw, ExprStmt, Return, If, While, DoWhile, For, Labeled, Break, Continue, Switch, Try, VarDecl, Tree, node, Forest, ε, ◌⊳◌}
+use Rattle.swc_ast.specs.Tree.{Label, While, DoWhile, For, Labeled, Switch, VarDecl, Tree, node, Forest, ε, ◌⊳◌, simple, holder}
 use Rattle.swc_ast.specs.Scope.{joined}
 
 -- a node that no jump inside it goes to
@@ -26,19 +26,7 @@ mutual
 
 -- a statement that declares neither `let`, `const` nor a function
 abbrev pub is_plain_statement : Label → Bool
-is_plain_statement Block = true
-is_plain_statement Empty = true
-is_plain_statement Throw = true
-is_plain_statement ExprStmt = true
-is_plain_statement Return = true
-is_plain_statement If = true
-is_plain_statement While = true
-is_plain_statement DoWhile = true
-is_plain_statement For = true
-is_plain_statement (Labeled t) = true
-is_plain_statement (Break o) = true
-is_plain_statement (Continue o) = true
-is_plain_statement (Switch ds) = true
-is_plain_statement (Try o) = true
+is_plain_statement (simple s) = true
+is_plain_statement (holder h) = true
 is_plain_statement (VarDecl Var) = true
 is_plain_statement _ = false

@@ -4,46 +4,21 @@ use Rattle.std.specs.Prelude.{◌≡◌, Bool, true, false, ◌&&◌, ◌||◌, 
 use Rattle.swc_ast.specs.Labels.{is_declaration, is_params, is_body, is_param}
 use Rattle.swc_ast.specs.declared.VarDeclKind.{VarDeclKind}
 use Rattle.swc_ast.specs.declared.VarDeclKind.TheVariants.{Var, Let, Const}
-use Rattle.swc_ast.specs.Tree.{Label, Method, Fn, Arrow, Params, Body, Param, Block, If, While, DoWhile, For, Labeled, Switch, CaseBody, Try, VarDecl, Declarator, FnDecl, Module, Script, Import, ImportNamed, ImportDefault, ImportStar, ExportDecl, ExportDefaultFn, ExportDefaultExpr, Tree, node, Forest, ε, ◌⊳◌}
+use Rattle.swc_ast.specs.Tree.{Label, Method, Fn, Arrow, Params, Body, Block, If, While, DoWhile, For, Labeled, Switch, CaseBody, Try, VarDecl, Declarator, FnDecl, Module, Script, Import, ImportNamed, ImportDefault, ImportStar, ExportDecl, ExportDefaultFn, ExportDefaultExpr, Tree, node, Forest, ε, ◌⊳◌, expr, prop, simple, holder, Absent, ExportNamed, ExportSpecifier}
 
 -- a node that shows no name to the node around it: an expression, or a statement that holds none and declares nothing
 abbrev pub is_inner : Label → Bool
-is_inner Params = false
-is_inner Body = false
-is_inner (Param x) = false
-is_inner Block = false
-is_inner If = false
-is_inner While = false
-is_inner DoWhile = false
-is_inner For = false
-is_inner (Labeled l) = false
-is_inner (Switch ds) = false
-is_inner CaseBody = false
-is_inner (Try o) = false
-is_inner (VarDecl kind) = false
-is_inner (Declarator kind x) = false
-is_inner (FnDecl x) = false
-is_inner Module = false
-is_inner Script = false
-is_inner (Import src) = false
-is_inner (ImportNamed x i) = false
-is_inner (ImportDefault x) = false
-is_inner (ImportStar x) = false
-is_inner ExportDecl = false
-is_inner (ExportDefaultFn o) = false
-is_inner ExportDefaultExpr = false
-is_inner _ = true
+is_inner (expr e) = true
+is_inner (prop p) = true
+is_inner (simple s) = true
+is_inner Absent = true
+is_inner ExportNamed = true
+is_inner (ExportSpecifier x i) = true
+is_inner _ = false
 
 -- a statement that holds statements, and declares nothing by itself
 abbrev pub is_holder : Label → Bool
-is_holder Block = true
-is_holder If = true
-is_holder While = true
-is_holder DoWhile = true
-is_holder For = true
-is_holder (Labeled l) = true
-is_holder (Switch ds) = true
-is_holder (Try o) = true
+is_holder (holder h) = true
 is_holder _ = false
 
 -- what may stand where a statement may

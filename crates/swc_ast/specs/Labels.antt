@@ -1,39 +1,10 @@
 -- Classes of labels.
 use Rattle.std.specs.Prelude.{Bool, true, false}
-use Rattle.swc_ast.specs.Tree.{Label, NumLit, StrLit, BoolLit, NullLit, This, Invalid, Read, Template, Array, Object, Fn, Arrow, Unary, TypeOfName, Binary, Cond, Seq, Dot, Index, Call, New, CallEval, CallDot, CallIndex, Assign, AssignDot, AssignIndex, Update, UpdateDot, UpdateIndex, Params, Param, Body, Block, CaseBody, VarDecl, FnDecl, ExportDecl, Module, Script}
+use Rattle.swc_ast.specs.Tree.{Label, Read, Dot, Index, Params, Param, Body, Block, CaseBody, VarDecl, ExportDecl, Module, Script, expr, decl}
 
 -- an expression
 abbrev pub is_expression : Label → Bool
-is_expression (NumLit z) = true
-is_expression (StrLit t) = true
-is_expression (BoolLit b) = true
-is_expression NullLit = true
-is_expression This = true
-is_expression Invalid = true
-is_expression (Read x) = true
-is_expression (Template qs) = true
-is_expression (Array ks) = true
-is_expression Object = true
-is_expression (Fn o) = true
-is_expression Arrow = true
-is_expression (Unary op) = true
-is_expression (TypeOfName x) = true
-is_expression (Binary op) = true
-is_expression Cond = true
-is_expression Seq = true
-is_expression (Dot k) = true
-is_expression Index = true
-is_expression Call = true
-is_expression New = true
-is_expression (CallEval x) = true
-is_expression (CallDot k) = true
-is_expression CallIndex = true
-is_expression (Assign op x) = true
-is_expression (AssignDot op k) = true
-is_expression (AssignIndex op) = true
-is_expression (Update op prefix x) = true
-is_expression (UpdateDot op prefix k) = true
-is_expression (UpdateIndex op prefix) = true
+is_expression (expr e) = true
 is_expression _ = false
 
 -- a name that is read
@@ -76,8 +47,7 @@ is_whole _ = false
 
 -- a declaration of variables or of a function
 abbrev pub is_declaration : Label → Bool
-is_declaration (VarDecl kind) = true
-is_declaration (FnDecl x) = true
+is_declaration (decl d) = true
 is_declaration _ = false
 
 -- a declaration of variables

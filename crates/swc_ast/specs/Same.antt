@@ -5,6 +5,8 @@ use Rattle.std.specs.Ordering.{int_eq}
 use Rattle.std.specs.Bool.{beq}
 use Rattle.swc_ast.specs.Tree.{Text, same_name, Key, NameKey, TextKey, NumberKey, ItemKind, Plain, Spread, Hole, Label, Tree, node, Forest, ε, ◌⊳◌}
 use Rattle.swc_ast.specs.Tree as tree
+use Rattle.swc_ast.specs.Sorts as by_sort
+use Rattle.swc_ast.specs.Sorts.{ExprLabel, PropLabel, PartLabel, SimpleLabel, HolderLabel, DeclLabel, ItemLabel}
 use Rattle.swc_ast.specs.declared.Span.{Span}
 use Rattle.swc_ast.specs.declared.UnaryOp.{UnaryOp}
 use Rattle.swc_ast.specs.declared.UpdateOp.{UpdateOp}
@@ -65,77 +67,106 @@ same_span a b = (a.lo == b.lo) && (a.hi == b.hi)
 abbrev pub same_spans : Bool → List Span → List Span → Bool
 same_spans count ss ts = pointwise same_span ss ts || not count
 
--- labels: of one kind, with the same in them
+-- labels of one sort: of one kind, with the same in them
+abbrev pub same_expr_label : ExprLabel → ExprLabel → Bool
+same_expr_label (by_sort.NumLit a) (by_sort.NumLit b) = int_eq a b
+same_expr_label (by_sort.StrLit a) (by_sort.StrLit b) = bytes_eq a b
+same_expr_label (by_sort.BoolLit a) (by_sort.BoolLit b) = beq a b
+same_expr_label by_sort.NullLit by_sort.NullLit = true
+same_expr_label by_sort.This by_sort.This = true
+same_expr_label by_sort.Invalid by_sort.Invalid = true
+same_expr_label (by_sort.Read a) (by_sort.Read b) = same_name a b
+same_expr_label (by_sort.Template a) (by_sort.Template b) = pointwise same_quasi a b
+same_expr_label (by_sort.Array a) (by_sort.Array b) = pointwise same_item a b
+same_expr_label by_sort.Object by_sort.Object = true
+same_expr_label (by_sort.Fn a) (by_sort.Fn b) = same_option same_name a b
+same_expr_label by_sort.Arrow by_sort.Arrow = true
+same_expr_label (by_sort.Unary a) (by_sort.Unary b) = same_unary a b
+same_expr_label (by_sort.TypeOfName a) (by_sort.TypeOfName b) = same_name a b
+same_expr_label (by_sort.Binary a) (by_sort.Binary b) = same_binary a b
+same_expr_label by_sort.Cond by_sort.Cond = true
+same_expr_label by_sort.Seq by_sort.Seq = true
+same_expr_label (by_sort.Dot a) (by_sort.Dot b) = bytes_eq a b
+same_expr_label by_sort.Index by_sort.Index = true
+same_expr_label by_sort.Call by_sort.Call = true
+same_expr_label by_sort.New by_sort.New = true
+same_expr_label (by_sort.CallEval a) (by_sort.CallEval b) = same_name a b
+same_expr_label (by_sort.CallDot a) (by_sort.CallDot b) = bytes_eq a b
+same_expr_label by_sort.CallIndex by_sort.CallIndex = true
+same_expr_label (by_sort.Assign o a) (by_sort.Assign p b) = same_assign o p && same_name a b
+same_expr_label (by_sort.AssignDot o a) (by_sort.AssignDot p b) = same_assign o p && bytes_eq a b
+same_expr_label (by_sort.AssignIndex o) (by_sort.AssignIndex p) = same_assign o p
+same_expr_label (by_sort.Update o c a) (by_sort.Update p d b) = (same_update o p && beq c d) && same_name a b
+same_expr_label (by_sort.UpdateDot o c a) (by_sort.UpdateDot p d b) = (same_update o p && beq c d) && bytes_eq a b
+same_expr_label (by_sort.UpdateIndex o c) (by_sort.UpdateIndex p d) = same_update o p && beq c d
+same_expr_label _ _ = false
+
+abbrev pub same_prop_label : PropLabel → PropLabel → Bool
+same_prop_label by_sort.SpreadRecord by_sort.SpreadRecord = true
+same_prop_label by_sort.KeyValue by_sort.KeyValue = true
+same_prop_label (by_sort.Shorthand a) (by_sort.Shorthand b) = same_name a b
+same_prop_label by_sort.Method by_sort.Method = true
+same_prop_label (by_sort.PlainKey a) (by_sort.PlainKey b) = same_key a b
+same_prop_label by_sort.ComputedKey by_sort.ComputedKey = true
+same_prop_label _ _ = false
+
+abbrev pub same_part_label : PartLabel → PartLabel → Bool
+same_part_label by_sort.Params by_sort.Params = true
+same_part_label by_sort.Body by_sort.Body = true
+same_part_label (by_sort.Param a) (by_sort.Param b) = same_name a b
+same_part_label by_sort.Absent by_sort.Absent = true
+same_part_label by_sort.CaseBody by_sort.CaseBody = true
+same_part_label (by_sort.Declarator k a) (by_sort.Declarator l b) = same_kind k l && same_name a b
+same_part_label _ _ = false
+
+abbrev pub same_simple_label : SimpleLabel → SimpleLabel → Bool
+same_simple_label by_sort.Empty by_sort.Empty = true
+same_simple_label by_sort.Throw by_sort.Throw = true
+same_simple_label by_sort.ExprStmt by_sort.ExprStmt = true
+same_simple_label by_sort.Return by_sort.Return = true
+same_simple_label (by_sort.Break a) (by_sort.Break b) = same_option bytes_eq a b
+same_simple_label (by_sort.Continue a) (by_sort.Continue b) = same_option bytes_eq a b
+same_simple_label _ _ = false
+
+abbrev pub same_holder_label : HolderLabel → HolderLabel → Bool
+same_holder_label by_sort.Block by_sort.Block = true
+same_holder_label by_sort.If by_sort.If = true
+same_holder_label by_sort.While by_sort.While = true
+same_holder_label by_sort.DoWhile by_sort.DoWhile = true
+same_holder_label by_sort.For by_sort.For = true
+same_holder_label (by_sort.Labeled a) (by_sort.Labeled b) = bytes_eq a b
+same_holder_label (by_sort.Switch a) (by_sort.Switch b) = pointwise beq a b
+same_holder_label (by_sort.Try a) (by_sort.Try b) = same_option (same_option same_name) a b
+same_holder_label _ _ = false
+
+abbrev pub same_decl_label : DeclLabel → DeclLabel → Bool
+same_decl_label (by_sort.VarDecl a) (by_sort.VarDecl b) = same_kind a b
+same_decl_label (by_sort.FnDecl a) (by_sort.FnDecl b) = same_name a b
+same_decl_label _ _ = false
+
+abbrev pub same_item_label : ItemLabel → ItemLabel → Bool
+same_item_label by_sort.Module by_sort.Module = true
+same_item_label by_sort.Script by_sort.Script = true
+same_item_label (by_sort.Import a) (by_sort.Import b) = bytes_eq a b
+same_item_label (by_sort.ImportNamed a k) (by_sort.ImportNamed b l) = same_name a b && same_option bytes_eq k l
+same_item_label (by_sort.ImportDefault a) (by_sort.ImportDefault b) = same_name a b
+same_item_label (by_sort.ImportStar a) (by_sort.ImportStar b) = same_name a b
+same_item_label by_sort.ExportDecl by_sort.ExportDecl = true
+same_item_label by_sort.ExportNamed by_sort.ExportNamed = true
+same_item_label (by_sort.ExportSpecifier a k) (by_sort.ExportSpecifier b l) = same_name a b && same_option bytes_eq k l
+same_item_label (by_sort.ExportDefaultFn a) (by_sort.ExportDefaultFn b) = same_option same_name a b
+same_item_label by_sort.ExportDefaultExpr by_sort.ExportDefaultExpr = true
+same_item_label _ _ = false
+
+-- labels: of one sort and of one kind, with the same in them
 unfoldable pub same_label : Label → Label → Bool
-same_label (tree.NumLit a) (tree.NumLit b) = int_eq a b
-same_label (tree.StrLit a) (tree.StrLit b) = bytes_eq a b
-same_label (tree.BoolLit a) (tree.BoolLit b) = beq a b
-same_label tree.NullLit tree.NullLit = true
-same_label tree.This tree.This = true
-same_label tree.Invalid tree.Invalid = true
-same_label (tree.Read a) (tree.Read b) = same_name a b
-same_label (tree.Template a) (tree.Template b) = pointwise same_quasi a b
-same_label (tree.Array a) (tree.Array b) = pointwise same_item a b
-same_label tree.Object tree.Object = true
-same_label tree.SpreadRecord tree.SpreadRecord = true
-same_label tree.KeyValue tree.KeyValue = true
-same_label (tree.Shorthand a) (tree.Shorthand b) = same_name a b
-same_label tree.Method tree.Method = true
-same_label (tree.PlainKey a) (tree.PlainKey b) = same_key a b
-same_label tree.ComputedKey tree.ComputedKey = true
-same_label (tree.Fn a) (tree.Fn b) = same_option same_name a b
-same_label tree.Arrow tree.Arrow = true
-same_label tree.Params tree.Params = true
-same_label tree.Body tree.Body = true
-same_label (tree.Param a) (tree.Param b) = same_name a b
-same_label (tree.Unary a) (tree.Unary b) = same_unary a b
-same_label (tree.TypeOfName a) (tree.TypeOfName b) = same_name a b
-same_label (tree.Binary a) (tree.Binary b) = same_binary a b
-same_label tree.Cond tree.Cond = true
-same_label tree.Seq tree.Seq = true
-same_label (tree.Dot a) (tree.Dot b) = bytes_eq a b
-same_label tree.Index tree.Index = true
-same_label tree.Call tree.Call = true
-same_label tree.New tree.New = true
-same_label (tree.CallEval a) (tree.CallEval b) = same_name a b
-same_label (tree.CallDot a) (tree.CallDot b) = bytes_eq a b
-same_label tree.CallIndex tree.CallIndex = true
-same_label (tree.Assign o a) (tree.Assign p b) = same_assign o p && same_name a b
-same_label (tree.AssignDot o a) (tree.AssignDot p b) = same_assign o p && bytes_eq a b
-same_label (tree.AssignIndex o) (tree.AssignIndex p) = same_assign o p
-same_label (tree.Update o c a) (tree.Update p d b) = (same_update o p && beq c d) && same_name a b
-same_label (tree.UpdateDot o c a) (tree.UpdateDot p d b) = (same_update o p && beq c d) && bytes_eq a b
-same_label (tree.UpdateIndex o c) (tree.UpdateIndex p d) = same_update o p && beq c d
-same_label tree.Block tree.Block = true
-same_label tree.Empty tree.Empty = true
-same_label tree.Throw tree.Throw = true
-same_label tree.ExprStmt tree.ExprStmt = true
-same_label tree.Return tree.Return = true
-same_label tree.If tree.If = true
-same_label tree.While tree.While = true
-same_label tree.DoWhile tree.DoWhile = true
-same_label tree.For tree.For = true
-same_label tree.Absent tree.Absent = true
-same_label (tree.Labeled a) (tree.Labeled b) = bytes_eq a b
-same_label (tree.Break a) (tree.Break b) = same_option bytes_eq a b
-same_label (tree.Continue a) (tree.Continue b) = same_option bytes_eq a b
-same_label (tree.Switch a) (tree.Switch b) = pointwise beq a b
-same_label tree.CaseBody tree.CaseBody = true
-same_label (tree.Try a) (tree.Try b) = same_option (same_option same_name) a b
-same_label (tree.VarDecl a) (tree.VarDecl b) = same_kind a b
-same_label (tree.Declarator k a) (tree.Declarator l b) = same_kind k l && same_name a b
-same_label (tree.FnDecl a) (tree.FnDecl b) = same_name a b
-same_label tree.Module tree.Module = true
-same_label tree.Script tree.Script = true
-same_label (tree.Import a) (tree.Import b) = bytes_eq a b
-same_label (tree.ImportNamed a k) (tree.ImportNamed b l) = same_name a b && same_option bytes_eq k l
-same_label (tree.ImportDefault a) (tree.ImportDefault b) = same_name a b
-same_label (tree.ImportStar a) (tree.ImportStar b) = same_name a b
-same_label tree.ExportDecl tree.ExportDecl = true
-same_label tree.ExportNamed tree.ExportNamed = true
-same_label (tree.ExportSpecifier a k) (tree.ExportSpecifier b l) = same_name a b && same_option bytes_eq k l
-same_label (tree.ExportDefaultFn a) (tree.ExportDefaultFn b) = same_option same_name a b
-same_label tree.ExportDefaultExpr tree.ExportDefaultExpr = true
+same_label (tree.expr a) (tree.expr b) = same_expr_label a b
+same_label (tree.prop a) (tree.prop b) = same_prop_label a b
+same_label (tree.part a) (tree.part b) = same_part_label a b
+same_label (tree.simple a) (tree.simple b) = same_simple_label a b
+same_label (tree.holder a) (tree.holder b) = same_holder_label a b
+same_label (tree.decl a) (tree.decl b) = same_decl_label a b
+same_label (tree.item a) (tree.item b) = same_item_label a b
 same_label _ _ = false
 
 unfoldable mutual

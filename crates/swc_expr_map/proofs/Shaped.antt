@@ -57,6 +57,9 @@ bare_code (tree.Fn (Some x)) = refl
 bare_code (tree.Try None) = refl
 bare_code (tree.Try (Some None)) = refl
 bare_code (tree.Try (Some (Some x))) = refl
+bare_code tree.Method = refl
+bare_code tree.Absent = refl
+bare_code (tree.FnDecl x0) = refl
 bare_code l = refl
 
 mutual

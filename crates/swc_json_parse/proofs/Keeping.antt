@@ -200,6 +200,8 @@ around_walks s tree.Method ss (t ⊳ ts) (and_more h rest) = inside (both (h s s
 around_walks s (tree.Switch ds) ss (t ⊳ ts) (and_more h rest) = inside (both (h s spot.Here) (all_go rest _))
 around_walks s (tree.Try (Some o)) ss (b ⊳ t ⊳ e ⊳ ε) (and_more h (and_more i (and_more j no_more))) = inside (both (h s spot.Here) (both (i _ spot.Here) (both (j _ spot.Here) nothing)))
 around_walks s (tree.ExportSpecifier x i) ss ts h = walks_itself Did _
+around_walks s tree.Absent ss ts h = inside (all_go h _)
+around_walks s (tree.FnDecl x0) ss ts h = inside (all_go h _)
 around_walks s l ss ts h = inside (all_go h _)
 
 -- what is chosen at a node

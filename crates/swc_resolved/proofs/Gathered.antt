@@ -94,12 +94,14 @@ lone_label : (l : Label) (cs : Forest) → is_lexical l ≡ false → label_name
 lone_label (tree.VarDecl Let) cs h = absurd (false≢true (sym h))
 lone_label (tree.VarDecl Const) cs h = absurd (false≢true (sym h))
 lone_label (tree.VarDecl Var) cs h = refl
+lone_label tree.ExportNamed cs h = refl
 lone_label l cs h = refl
 
 without_spans : (l : Label) (ss : List Span) (cs : Forest) → first_names (declared_by_label l ss cs) ≡ label_names l cs
 without_spans (tree.VarDecl Let) ss cs = refl
 without_spans (tree.VarDecl Const) ss cs = refl
 without_spans (tree.VarDecl Var) ss cs = refl
+without_spans tree.ExportNamed ss cs = refl
 without_spans l ss cs = refl
 
 by_declaration : (t : Tree) → first_names (declared_by t) ≡ label_names (label_of (declaring t)) (children_of (declaring t))

@@ -62,36 +62,7 @@ by_form : (l : tree.Label) (n : ℕ) → expr_form l ≡ n → (0 == n) ≡ fals
 by_form l n is some = by l (ap (λ k. 0 == k) is ∙ some)
   where
     by : (l : tree.Label) → (0 == expr_form l) ≡ false → is_expression l ≡ true
-    by tree.This h = refl
-    by (tree.Array ks) h = refl
-    by tree.Object h = refl
-    by (tree.Fn o) h = refl
-    by (tree.Unary o) h = refl
-    by (tree.TypeOfName x) h = refl
-    by (tree.Update o b x) h = refl
-    by (tree.UpdateDot o b k) h = refl
-    by (tree.UpdateIndex o b) h = refl
-    by (tree.Binary o) h = refl
-    by (tree.Assign o x) h = refl
-    by (tree.AssignDot o k) h = refl
-    by (tree.AssignIndex o) h = refl
-    by (tree.Dot k) h = refl
-    by tree.Index h = refl
-    by tree.Cond h = refl
-    by tree.Call h = refl
-    by (tree.CallEval x) h = refl
-    by (tree.CallDot k) h = refl
-    by tree.CallIndex h = refl
-    by tree.New h = refl
-    by tree.Seq h = refl
-    by (tree.Read x) h = refl
-    by (tree.NumLit z) h = refl
-    by (tree.StrLit t) h = refl
-    by (tree.BoolLit b) h = refl
-    by tree.NullLit h = refl
-    by (tree.Template ts) h = refl
-    by tree.Arrow h = refl
-    by tree.Invalid h = refl
+    by (tree.expr e) h = refl
     by l h = absurd (false≢true (sym h))
 
 form_some : (o : ExprForm) → (0 == expr_number o) ≡ false

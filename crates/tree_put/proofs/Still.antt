@@ -49,6 +49,8 @@ around_stays A k tree.Method ss (t ⊳ ts) (and_more h rest) = turn_from _ (h sp
 around_stays A k (tree.Switch ds) ss (t ⊳ ts) (and_more h rest) = turn_from _ (h spot.Here) rest
 around_stays A k (tree.Try (Some o)) ss (b ⊳ t ⊳ e ⊳ ε) (and_more h (and_more {f = g} i (and_more {f = q} j no_more))) = ap (λ z. (q (g z spot.Here).1 spot.Here).1) (h spot.Here) ∙ ap (λ z. (q z spot.Here).1) (i spot.Here) ∙ j spot.Here
 around_stays A k (tree.ExportSpecifier x i) ss ts h = refl
+around_stays A k tree.Absent ss ts h = turn h
+around_stays A k (tree.FnDecl x0) ss ts h = turn h
 around_stays A k l ss ts h = turn h
 
 if_stays : {K : Type 0} {k : K} (b : Bool) (x y : Tree × K) → x.1 ≡ k → y.1 ≡ k → (if b then x else y).1 ≡ k

@@ -27,6 +27,11 @@ label_stops : (l : tree.Label) → is_stopper_label l ≡ class_stops (label_cla
 label_stops (tree.VarDecl Var) = refl
 label_stops (tree.VarDecl Let) = refl
 label_stops (tree.VarDecl Const) = refl
+label_stops tree.This = refl
+label_stops tree.Absent = refl
+label_stops tree.Empty = refl
+label_stops tree.Block = refl
+label_stops tree.ExportNamed = refl
 label_stops l = refl
 
 pub stops_by : (t : Tree) → is_stopper t ≡ class_stops (label_class (label_of t))
@@ -36,6 +41,11 @@ label_stays : (l : tree.Label) → stays_label l ≡ class_stays (label_class l)
 label_stays (tree.VarDecl Var) = refl
 label_stays (tree.VarDecl Let) = refl
 label_stays (tree.VarDecl Const) = refl
+label_stays tree.This = refl
+label_stays tree.Absent = refl
+label_stays tree.Empty = refl
+label_stays tree.Block = refl
+label_stays tree.ExportNamed = refl
 label_stays l = refl
 
 pub stays_by : (t : Tree) → stays_behind t ≡ class_stays (label_class (label_of t))
@@ -45,6 +55,11 @@ pub truth_by : (t : Tree) → is_truth_or_absent t ≡ class_is_truth (label_cla
 truth_by (node (tree.VarDecl Var) ss cs) = refl
 truth_by (node (tree.VarDecl Let) ss cs) = refl
 truth_by (node (tree.VarDecl Const) ss cs) = refl
+truth_by (node tree.This ss cs) = refl
+truth_by (node tree.Absent ss cs) = refl
+truth_by (node tree.Empty ss cs) = refl
+truth_by (node tree.Block ss cs) = refl
+truth_by (node tree.ExportNamed ss cs) = refl
 truth_by (node l ss cs) = refl
 
 abbrev pub class_is_absent : Class → Bool
@@ -60,10 +75,20 @@ pub absent_by : (t : Tree) → is_absent t ≡ class_is_absent (label_class (lab
 absent_by (node (tree.VarDecl Var) ss cs) = refl
 absent_by (node (tree.VarDecl Let) ss cs) = refl
 absent_by (node (tree.VarDecl Const) ss cs) = refl
+absent_by (node tree.This ss cs) = refl
+absent_by (node tree.Absent ss cs) = refl
+absent_by (node tree.Empty ss cs) = refl
+absent_by (node tree.Block ss cs) = refl
+absent_by (node tree.ExportNamed ss cs) = refl
 absent_by (node l ss cs) = refl
 
 pub listed_by : (t : Tree) → is_listed t ≡ class_is_listed (label_class (label_of t))
 listed_by (node (tree.VarDecl Var) ss cs) = refl
 listed_by (node (tree.VarDecl Let) ss cs) = refl
 listed_by (node (tree.VarDecl Const) ss cs) = refl
+listed_by (node tree.This ss cs) = refl
+listed_by (node tree.Absent ss cs) = refl
+listed_by (node tree.Empty ss cs) = refl
+listed_by (node tree.Block ss cs) = refl
+listed_by (node tree.ExportNamed ss cs) = refl
 listed_by (node l ss cs) = refl
