@@ -1,0 +1,2 @@
+//! What a module is with other names.
+#![tactic(auto)]
