@@ -7,9 +7,9 @@ use std::simd::prelude::*;
 
 /// White space or a comment: how many bytes, and whether a line ends in it.
 #[derive(Clone, Copy)]
-pub(crate) struct Blank {
-    pub(crate) len: usize,
-    pub(crate) breaks_line: bool,
+pub struct Blank {
+    pub len: usize,
+    pub breaks_line: bool,
 }
 
 const NO_END: Blank = Blank {
@@ -27,7 +27,7 @@ fn space(len: usize) -> Blank {
 
 /// Whether a line separator or a paragraph separator stands at the front.
 #[inline(always)]
-pub(crate) fn begins_with_separator(bytes: &[u8]) -> bool {
+pub fn begins_with_separator(bytes: &[u8]) -> bool {
     bytes.starts_with(b"\xE2\x80\xA8") || bytes.starts_with(b"\xE2\x80\xA9")
 }
 
@@ -142,16 +142,16 @@ fn rare_blank(bytes: &[u8]) -> Option<Blank> {
 
 /// What stands between two tokens.
 #[derive(Clone, Copy)]
-pub(crate) struct Blanks {
-    pub(crate) len: usize,
-    pub(crate) breaks_line: bool,
+pub struct Blanks {
+    pub len: usize,
+    pub breaks_line: bool,
     /// whether a comment was met that has no end, as then none has one
-    pub(crate) comments_are_open: bool,
+    pub comments_are_open: bool,
 }
 
 /// The white space and the comments at the front. A comment without an end is none.
 #[inline(never)]
-pub(crate) fn blanks_at_front(bytes: &[u8], comments_are_open: bool) -> Blanks
+pub fn blanks_at_front(bytes: &[u8], comments_are_open: bool) -> Blanks
     ensures { result.len ≤ length bytes.now }
 {
     let spaces = white_space(bytes);

@@ -17,7 +17,7 @@ pub fn is_word_part(byte: u8) -> bool
 
 /// How many bytes at the front may stand in a name.
 #[inline(never)]
-pub(crate) fn word_len(bytes: &[u8]) -> usize
+pub fn word_len(bytes: &[u8]) -> usize
     ensures { result ≤ length bytes.now }
 {
     for (i, byte) in bytes.iter().enumerate() {
@@ -30,7 +30,7 @@ pub(crate) fn word_len(bytes: &[u8]) -> usize
 
 /// How many bytes at the front of a block may stand in a name.
 #[inline(always)]
-pub(crate) fn word_len_in(block: &[u8; LANES]) -> usize
+pub fn word_len_in(block: &[u8; LANES]) -> usize
     ensures { result ≤ 16 }
 {
     let block = u8x16::from_array(*block);
@@ -45,7 +45,7 @@ pub(crate) fn word_len_in(block: &[u8; LANES]) -> usize
 
 /// What the word is that a block begins with.
 #[inline(always)]
-pub(crate) fn kind_in(block: &[u8; LANES], len: usize) -> Kind
+pub fn kind_in(block: &[u8; LANES], len: usize) -> Kind
     requires { len ≤ 16 }
 {
     if len > 8 {
@@ -72,7 +72,7 @@ fn kind_of_word(word: &[u8]) -> Kind {
 
 /// The name or the reserved word at a place, and where it ends.
 #[inline(never)]
-pub(crate) fn word_at(text: &str, start: usize) -> (Kind, usize) {
+pub fn word_at(text: &str, start: usize) -> (Kind, usize) {
     let rest = text.as_bytes().get(start..).unwrap_or(b"");
     let len = word_len(rest);
     let end = start.saturating_add(len);
@@ -102,7 +102,7 @@ fn wide_len(text: &str) -> usize {
 
 /// Where a name ends whose first part ends at a place, and that goes on with more than ASCII.
 #[inline(never)]
-pub(crate) fn wide_name_end(text: &str, start: usize) -> usize {
+pub fn wide_name_end(text: &str, start: usize) -> usize {
     let bytes = text.as_bytes();
     let mut end = start;
     for _ in 0..bytes.len() {
