@@ -1,0 +1,6 @@
+-- fewer digits
+use Rattle.std.proofs.Common.{length}
+use Rattle.text_tokens.proofs.number.+value_of.Given as goal
+
+abbrev pub decreases-value_of : goal.decreases-value_of
+decreases-value_of l = length l.digits.now
