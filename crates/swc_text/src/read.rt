@@ -7,6 +7,7 @@ ghost use Rattle.swc_ast.specs.Modules.{module_tree, script_tree};
 ghost use Rattle.swc_ast.specs.Resolved.{IsResolved};
 ghost use Rattle.swc_ast.specs.Valid.{valid};
 ghost use Rattle.swc_ast.specs.Views.{expr_tree};
+ghost use Rattle.swc_text.specs.Texts.{IsReadModule, IsReadScript};
 ghost use Rattle.swc_text.specs.declared.error.ReadError.TheVariants.{TooLong};
 
 use crate::error::{ReadError, told};
@@ -23,7 +24,9 @@ const TOO_LONG: usize = 0x8000_0000;
 /// The k-th scope that the text opens gives its names the context of the mark's number plus k, where numbers past 2^31 - 1 go on
 /// at 1: so no two scopes share one, and none has the mark's. Scopes are the module, each function, a function expression's own
 /// name, a body whose parameters have a default, each block, `for`, `switch` and `catch`. Other names have the mark's context.
+#[tactic(auto, using(crate::proofs::Reading::read_module))]
 pub fn read_module(alloc: Global, text: &str, unresolved_mark: Mark) -> Result<Module, ReadError>
+    ensures read { IfOk result (λ m. IsReadModule unresolved_mark text.now (module_tree m)) }
     ensures valid { IfOk result (λ m. valid (module_tree m) ≡ true) }
     ensures resolved { IfOk result (λ m. IsResolved (mark_number unresolved_mark) (module_tree m)) }
     ensures core { IfOk result (λ m. IsCore (module_tree m)) }
@@ -55,7 +58,9 @@ fn checked_module(alloc: Global, read: Module, unresolved_mark: Mark) -> Result<
 
 /// Reads a script (ECMA-262, 16.1) of core text as strict code. Spans, contexts and errors are those of `read_module`; the
 /// script is the first scope.
+#[tactic(auto, using(crate::proofs::Reading::read_script))]
 pub fn read_script(alloc: Global, text: &str, unresolved_mark: Mark) -> Result<Script, ReadError>
+    ensures read { IfOk result (λ s. IsReadScript unresolved_mark text.now (script_tree s)) }
     ensures valid { IfOk result (λ s. valid (script_tree s) ≡ true) }
     ensures resolved { IfOk result (λ s. IsResolved (mark_number unresolved_mark) (script_tree s)) }
     ensures core { IfOk result (λ s. IsCore (script_tree s)) }

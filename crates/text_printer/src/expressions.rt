@@ -1,14 +1,14 @@
 //! Expressions.
 use crate::precedence::{
     ASSIGNMENT, CALL, COMMA, SHORT_CIRCUIT, assignment_sign, binary_sign, constructor_strength,
-    left_strength, object_strength, operand_strength, right_strength, strength, unary_sign,
-    update_sign,
+    is_word, left_strength, object_strength, operand_strength, right_strength, strength,
+    unary_sign, update_sign,
 };
 use crate::writer::Printer;
 use std::alloc::AllocError;
 use swc_ast::{
-    ArrayLit, AssignTarget, BinExpr, BinaryOp, CondExpr, Expr, MemberExpr, MemberProp, Tpl,
-    UpdateExpr,
+    ArrayLit, AssignTarget, BinExpr, BinaryOp, CondExpr, Expr, MemberExpr, MemberProp, NewExpr,
+    Tpl, UnaryExpr, UpdateExpr,
 };
 
 fn is_in(expr: &Expr) -> bool {
@@ -30,7 +30,7 @@ impl Printer {
     #[cycle(print)]
     pub(crate) fn expr(&mut self, expr: &Expr, least: u8) -> Result<(), AllocError> {
         if strength(expr) >= least && !(self.in_head && is_in(expr)) {
-            return self.bare_expr(expr);
+            return self.bare_expr(expr, least);
         }
         self.wrapped(expr)
     }
@@ -39,29 +39,27 @@ impl Printer {
     pub(crate) fn wrapped(&mut self, expr: &Expr) -> Result<(), AllocError> {
         let in_head = self.enter();
         self.put("(")?;
-        self.bare_expr(expr)?;
+        self.bare_expr(expr, COMMA)?;
         self.in_head = in_head;
         self.put(")")
     }
 
+    /// An expression that binds as tightly as it has to.
     #[cycle(print)]
-    fn bare_expr(&mut self, expr: &Expr) -> Result<(), AllocError> {
+    fn bare_expr(&mut self, expr: &Expr, least: u8) -> Result<(), AllocError> {
         match expr {
-            Expr::This(_) => self.put("this"),
+            Expr::This(_) => self.token("this"),
             Expr::Ident(name) => self.name(name),
             Expr::Lit(literal) => self.literal(literal),
             Expr::Array(node) => self.array(node),
             Expr::Object(node) => self.object(node),
             Expr::Fn(node) => self.function_expr(node),
-            Expr::Unary(node) => {
-                self.put(unary_sign(node.op))?;
-                self.expr(&node.arg, operand_strength(node.op, &node.arg))
-            }
+            Expr::Unary(node) => self.unary(node),
             Expr::Update(node) => self.update(node),
             Expr::Bin(node) => self.binary(node),
             Expr::Assign(node) => {
                 self.target(&node.left)?;
-                self.put(assignment_sign(node.op))?;
+                self.between(assignment_sign(node.op))?;
                 self.expr(&node.right, ASSIGNMENT)
             }
             Expr::Member(member) => self.member(member),
@@ -70,16 +68,39 @@ impl Printer {
                 self.expr(&node.callee, CALL)?;
                 self.arguments(&node.args)
             }
-            Expr::New(node) => {
-                self.put("new ")?;
-                self.expr(&node.callee, constructor_strength(&node.callee))?;
-                self.arguments(&node.args)
-            }
+            Expr::New(node) => self.construction(node, least),
             Expr::Seq(node) => self.list(&node.exprs),
             Expr::Tpl(node) => self.template(node),
             Expr::Arrow(node) => self.arrow(node),
             Expr::Invalid(_) => Ok(()),
         }
+    }
+
+    #[cycle(print)]
+    fn unary(&mut self, node: &UnaryExpr) -> Result<(), AllocError> {
+        let sign = unary_sign(node.op);
+        self.token(sign)?;
+        if is_word(sign) {
+            self.space()?;
+        }
+        let least = operand_strength(node.op, &node.arg, self.layout);
+        self.expr(&node.arg, least)
+    }
+
+    /// `new a(b)`. A compact text has no empty parentheses where nothing behind would be read as those.
+    #[cycle(print)]
+    fn construction(&mut self, node: &NewExpr, least: u8) -> Result<(), AllocError> {
+        self.word("new")?;
+        self.expr(&node.callee, constructor_strength(&node.callee))?;
+        if self.leaves_out(&node.args, least) {
+            return Ok(());
+        }
+        self.arguments(&node.args)
+    }
+
+    /// Whether the parentheses behind the operand of `new` are left out.
+    fn leaves_out(&self, args: &Vec<Expr>, least: u8) -> bool {
+        self.is_compact() && args.is_empty() && least < CALL
     }
 
     #[cycle(print)]
@@ -127,11 +148,11 @@ impl Printer {
     #[cycle(print)]
     fn update(&mut self, node: &UpdateExpr) -> Result<(), AllocError> {
         if node.prefix {
-            self.put(update_sign(node.op))?;
+            self.token(update_sign(node.op))?;
         }
         self.target(&node.arg)?;
         if !node.prefix {
-            self.put(update_sign(node.op))?;
+            self.token(update_sign(node.op))?;
         }
         Ok(())
     }
@@ -147,18 +168,18 @@ impl Printer {
     #[cycle(print)]
     fn binary(&mut self, node: &BinExpr) -> Result<(), AllocError> {
         self.expr(&node.left, left_strength(node))?;
-        self.put(binary_sign(node.op))?;
-        self.expr(&node.right, right_strength(node))
+        self.between(binary_sign(node.op))?;
+        self.expr(&node.right, right_strength(node, self.layout))
     }
 
     #[cycle(print)]
     fn condition(&mut self, node: &CondExpr) -> Result<(), AllocError> {
         self.expr(&node.test, SHORT_CIRCUIT)?;
-        self.put(" ? ")?;
+        self.between("?")?;
         let in_head = self.enter();
         self.expr(&node.cons, ASSIGNMENT)?;
         self.in_head = in_head;
-        self.put(" : ")?;
+        self.between(":")?;
         self.expr(&node.alt, ASSIGNMENT)
     }
 

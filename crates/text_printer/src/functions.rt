@@ -7,10 +7,15 @@ use swc_ast::{
     PropOrSpread,
 };
 
+/// Whether a parameter has a default, so that the directive `use strict` in the body is an error (ECMA-262, 15.2.1).
+fn has_default(params: &Vec<Pat>) -> bool {
+    params.iter().any(|param| matches!(param, Pat::Assign(_)))
+}
+
 impl Printer {
     #[cycle(print)]
     pub(crate) fn function_expr(&mut self, node: &FnExpr) -> Result<(), AllocError> {
-        self.put("function ")?;
+        self.word("function")?;
         if let Some(name) = &node.ident {
             self.name(name)?;
         }
@@ -22,8 +27,8 @@ impl Printer {
     pub(crate) fn function(&mut self, function: &Function) -> Result<(), AllocError> {
         let in_head = self.enter();
         self.params(&function.params)?;
-        self.put(" ")?;
-        self.block(&function.body)?;
+        self.space()?;
+        self.block(&function.body, has_default(&function.params))?;
         self.in_head = in_head;
         Ok(())
     }
@@ -37,7 +42,7 @@ impl Printer {
                 Pat::Ident(name) => self.name(name)?,
                 Pat::Assign(node) => {
                     self.name(&node.left)?;
-                    self.put(" = ")?;
+                    self.between("=")?;
                     self.expr(&node.right, ASSIGNMENT)?;
                 }
             }
@@ -48,11 +53,14 @@ impl Printer {
     #[cycle(print)]
     pub(crate) fn arrow(&mut self, arrow: &ArrowExpr) -> Result<(), AllocError> {
         let in_head = self.enter();
-        self.params(&arrow.params)?;
-        self.put(" => ")?;
+        match arrow.params.as_slice() {
+            [Pat::Ident(name)] if self.is_compact() => self.name(name)?,
+            _ => self.params(&arrow.params)?,
+        }
+        self.between("=>")?;
         match &arrow.body {
             BlockStmtOrExpr::BlockStmt(body) => {
-                self.block(body)?;
+                self.block(body, has_default(&arrow.params))?;
                 self.in_head = in_head;
                 Ok(())
             }
@@ -89,7 +97,8 @@ impl Printer {
             PropOrSpread::Prop(Prop::Shorthand(name)) => self.name(name),
             PropOrSpread::Prop(Prop::KeyValue(node)) => {
                 self.key(&node.key)?;
-                self.put(": ")?;
+                self.put(":")?;
+                self.space()?;
                 self.expr(&node.value, ASSIGNMENT)
             }
             PropOrSpread::Prop(Prop::Method(node)) => {

@@ -1,4 +1,5 @@
-//! The text of a module or a script: one form for each node, parentheses only where reading would else give another tree.
+//! The text of a module or a script, spaced or compact: one form for each node in each layout, parentheses only where reading
+//! would else give another tree or an error.
 #![tactic(auto)]
 
 mod expressions;
@@ -9,4 +10,4 @@ mod precedence;
 mod statements;
 mod writer;
 
-pub use writer::{print, print_script};
+pub use writer::{Layout, print, print_script};

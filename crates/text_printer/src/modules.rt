@@ -1,4 +1,4 @@
-//! Modules and scripts: each item on a line of its own.
+//! Modules and scripts.
 use crate::precedence::ASSIGNMENT;
 use crate::writer::Printer;
 use std::alloc::AllocError;
@@ -9,19 +9,21 @@ use swc_ast::{
 impl Printer {
     pub(crate) fn module(&mut self, module: &Module) -> Result<(), AllocError> {
         for item in &module.body {
+            self.go_on()?;
             match item {
                 ModuleItem::ModuleDecl(decl) => self.module_decl(decl)?,
                 ModuleItem::Stmt(stmt) => self.stmt(stmt)?,
             }
-            self.put("\n")?;
+            self.line()?;
         }
         Ok(())
     }
 
     pub(crate) fn script(&mut self, script: &Script) -> Result<(), AllocError> {
         for stmt in &script.body {
+            self.go_on()?;
             self.stmt(stmt)?;
-            self.put("\n")?;
+            self.line()?;
         }
         Ok(())
     }
@@ -30,24 +32,26 @@ impl Printer {
         match decl {
             ModuleDecl::Import(node) => self.import(node),
             ModuleDecl::ExportDecl(node) => {
-                self.put("export ")?;
+                self.word("export")?;
                 self.decl(&node.decl)
             }
             ModuleDecl::ExportNamed(node) => self.named_export(node),
             ModuleDecl::ExportDefaultDecl(node) => {
-                self.put("export default ")?;
+                self.word("export")?;
+                self.word("default")?;
                 self.function_expr(&node.decl)
             }
             ModuleDecl::ExportDefaultExpr(node) => {
-                self.put("export default ")?;
+                self.word("export")?;
+                self.word("default")?;
                 self.expr_alone(&node.expr, ASSIGNMENT)?;
-                self.put(";")
+                self.semicolon()
             }
         }
     }
 
     fn import(&mut self, node: &ImportDecl) -> Result<(), AllocError> {
-        self.put("import ")?;
+        self.word("import")?;
         let mut in_braces = false;
         for (i, specifier) in node.specifiers.iter().enumerate() {
             let is_named = matches!(specifier, ImportSpecifier::Named(_));
@@ -65,10 +69,10 @@ impl Printer {
             self.put("}")?;
         }
         if !node.specifiers.is_empty() {
-            self.put(" from ")?;
+            self.between("from")?;
         }
         self.text(node.src.value.as_str())?;
-        self.put(";")
+        self.semicolon()
     }
 
     fn import_specifier(&mut self, specifier: &ImportSpecifier) -> Result<(), AllocError> {
@@ -76,32 +80,35 @@ impl Printer {
             ImportSpecifier::Named(node) => {
                 if let Some(imported) = &node.imported {
                     self.put(imported.sym.as_str())?;
-                    self.put(" as ")?;
+                    self.between("as")?;
                 }
                 self.name(&node.local)
             }
             ImportSpecifier::Default(node) => self.name(&node.local),
             ImportSpecifier::Namespace(node) => {
-                self.put("* as ")?;
+                self.put("*")?;
+                self.between("as")?;
                 self.name(&node.local)
             }
         }
     }
 
     fn named_export(&mut self, node: &NamedExport) -> Result<(), AllocError> {
-        self.put("export {")?;
+        self.word("export")?;
+        self.put("{")?;
         for (i, specifier) in node.specifiers.iter().enumerate() {
             self.comma(i)?;
             self.name(&specifier.orig)?;
             self.exported_as(&specifier.exported)?;
         }
-        self.put("};")
+        self.put("}")?;
+        self.semicolon()
     }
 
     fn exported_as(&mut self, exported: &Option<IdentName>) -> Result<(), AllocError> {
         if let Some(exported) = exported {
-            self.put(" as ")?;
-            self.put(exported.sym.as_str())?;
+            self.between("as")?;
+            self.token(exported.sym.as_str())?;
         }
         Ok(())
     }

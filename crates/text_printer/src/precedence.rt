@@ -1,4 +1,5 @@
 //! How tightly operators bind, and what an expression begins with.
+use crate::writer::Layout;
 use swc_ast::{
     AssignOp, AssignTarget, BinExpr, BinaryOp, Expr, Lit, MemberExpr, MemberProp, UnaryOp,
     UpdateOp, VarDeclKind,
@@ -26,34 +27,34 @@ const PRIMARY: u8 = 18;
 /// Above every form: an operand that has to be this tight stands in parentheses.
 pub(crate) const WRAPPED: u8 = 19;
 
-/// The sign of an operator between operands, with its spaces.
+/// The sign of an operator between operands.
 pub(crate) fn binary_sign(op: BinaryOp) -> &'static str {
     match op {
-        BinaryOp::NullishCoalescing => " ?? ",
-        BinaryOp::LogicalOr => " || ",
-        BinaryOp::LogicalAnd => " && ",
-        BinaryOp::BitOr => " | ",
-        BinaryOp::BitXor => " ^ ",
-        BinaryOp::BitAnd => " & ",
-        BinaryOp::EqEq => " == ",
-        BinaryOp::NotEq => " != ",
-        BinaryOp::EqEqEq => " === ",
-        BinaryOp::NotEqEq => " !== ",
-        BinaryOp::Lt => " < ",
-        BinaryOp::LtEq => " <= ",
-        BinaryOp::Gt => " > ",
-        BinaryOp::GtEq => " >= ",
-        BinaryOp::In => " in ",
-        BinaryOp::InstanceOf => " instanceof ",
-        BinaryOp::LShift => " << ",
-        BinaryOp::RShift => " >> ",
-        BinaryOp::ZeroFillRShift => " >>> ",
-        BinaryOp::Add => " + ",
-        BinaryOp::Sub => " - ",
-        BinaryOp::Mul => " * ",
-        BinaryOp::Div => " / ",
-        BinaryOp::Mod => " % ",
-        BinaryOp::Exp => " ** ",
+        BinaryOp::NullishCoalescing => "??",
+        BinaryOp::LogicalOr => "||",
+        BinaryOp::LogicalAnd => "&&",
+        BinaryOp::BitOr => "|",
+        BinaryOp::BitXor => "^",
+        BinaryOp::BitAnd => "&",
+        BinaryOp::EqEq => "==",
+        BinaryOp::NotEq => "!=",
+        BinaryOp::EqEqEq => "===",
+        BinaryOp::NotEqEq => "!==",
+        BinaryOp::Lt => "<",
+        BinaryOp::LtEq => "<=",
+        BinaryOp::Gt => ">",
+        BinaryOp::GtEq => ">=",
+        BinaryOp::In => "in",
+        BinaryOp::InstanceOf => "instanceof",
+        BinaryOp::LShift => "<<",
+        BinaryOp::RShift => ">>",
+        BinaryOp::ZeroFillRShift => ">>>",
+        BinaryOp::Add => "+",
+        BinaryOp::Sub => "-",
+        BinaryOp::Mul => "*",
+        BinaryOp::Div => "/",
+        BinaryOp::Mod => "%",
+        BinaryOp::Exp => "**",
     }
 }
 
@@ -101,15 +102,19 @@ pub(crate) fn left_strength(node: &BinExpr) -> u8 {
     }
 }
 
-/// How tightly the right operand has to bind.
-pub(crate) fn right_strength(node: &BinExpr) -> u8 {
+/// How tightly the right operand has to bind. A compact text has a space between two like signs.
+pub(crate) fn right_strength(node: &BinExpr, layout: Layout) -> u8 {
     match node.op {
         BinaryOp::Exp => 13,
         BinaryOp::NullishCoalescing => 5,
         BinaryOp::LogicalOr => 4,
         BinaryOp::LogicalAnd => 5,
-        BinaryOp::Add if first_of(&node.right) == First::Plus => WRAPPED,
-        BinaryOp::Sub if first_of(&node.right) == First::Minus => WRAPPED,
+        BinaryOp::Add if layout == Layout::Spaced && first_of(&node.right) == First::Plus => {
+            WRAPPED
+        }
+        BinaryOp::Sub if layout == Layout::Spaced && first_of(&node.right) == First::Minus => {
+            WRAPPED
+        }
         op => binary_strength(op).saturating_add(1),
     }
 }
@@ -128,48 +133,53 @@ fn is_nullish(expr: &Expr) -> bool {
     }
 }
 
-/// How tightly the operand of an operator in front of it has to bind.
-pub(crate) fn operand_strength(op: UnaryOp, operand: &Expr) -> u8 {
+/// How tightly the operand of an operator in front of it has to bind. A compact text has a space between two like signs.
+pub(crate) fn operand_strength(op: UnaryOp, operand: &Expr, layout: Layout) -> u8 {
     match op {
-        UnaryOp::Plus if first_of(operand) == First::Plus => WRAPPED,
-        UnaryOp::Minus if first_of(operand) == First::Minus => WRAPPED,
+        UnaryOp::Plus if layout == Layout::Spaced && first_of(operand) == First::Plus => WRAPPED,
+        UnaryOp::Minus if layout == Layout::Spaced && first_of(operand) == First::Minus => WRAPPED,
         _ => UNARY,
     }
 }
 
-/// The sign of an assignment, with its spaces.
+/// The sign of an assignment.
 pub(crate) fn assignment_sign(op: AssignOp) -> &'static str {
     match op {
-        AssignOp::Assign => " = ",
-        AssignOp::AddAssign => " += ",
-        AssignOp::SubAssign => " -= ",
-        AssignOp::MulAssign => " *= ",
-        AssignOp::DivAssign => " /= ",
-        AssignOp::ModAssign => " %= ",
-        AssignOp::ExpAssign => " **= ",
-        AssignOp::LShiftAssign => " <<= ",
-        AssignOp::RShiftAssign => " >>= ",
-        AssignOp::ZeroFillRShiftAssign => " >>>= ",
-        AssignOp::BitOrAssign => " |= ",
-        AssignOp::BitXorAssign => " ^= ",
-        AssignOp::BitAndAssign => " &= ",
-        AssignOp::AndAssign => " &&= ",
-        AssignOp::OrAssign => " ||= ",
-        AssignOp::NullishAssign => " ??= ",
+        AssignOp::Assign => "=",
+        AssignOp::AddAssign => "+=",
+        AssignOp::SubAssign => "-=",
+        AssignOp::MulAssign => "*=",
+        AssignOp::DivAssign => "/=",
+        AssignOp::ModAssign => "%=",
+        AssignOp::ExpAssign => "**=",
+        AssignOp::LShiftAssign => "<<=",
+        AssignOp::RShiftAssign => ">>=",
+        AssignOp::ZeroFillRShiftAssign => ">>>=",
+        AssignOp::BitOrAssign => "|=",
+        AssignOp::BitXorAssign => "^=",
+        AssignOp::BitAndAssign => "&=",
+        AssignOp::AndAssign => "&&=",
+        AssignOp::OrAssign => "||=",
+        AssignOp::NullishAssign => "??=",
     }
 }
 
-/// An operator in front of its operand, a word with the space behind it.
+/// An operator in front of its operand.
 pub(crate) fn unary_sign(op: UnaryOp) -> &'static str {
     match op {
         UnaryOp::Minus => "-",
         UnaryOp::Plus => "+",
         UnaryOp::Bang => "!",
         UnaryOp::Tilde => "~",
-        UnaryOp::TypeOf => "typeof ",
-        UnaryOp::Void => "void ",
-        UnaryOp::Delete => "delete ",
+        UnaryOp::TypeOf => "typeof",
+        UnaryOp::Void => "void",
+        UnaryOp::Delete => "delete",
     }
+}
+
+/// Whether such a sign is a word.
+pub(crate) fn is_word(sign: &str) -> bool {
+    matches!(sign.as_bytes(), [b'a'..=b'z', ..])
 }
 
 pub(crate) fn update_sign(op: UpdateOp) -> &'static str {
@@ -179,12 +189,12 @@ pub(crate) fn update_sign(op: UpdateOp) -> &'static str {
     }
 }
 
-/// The word before a declaration, with the space behind it.
+/// The word before a declaration.
 pub(crate) fn declaration_word(kind: VarDeclKind) -> &'static str {
     match kind {
-        VarDeclKind::Var => "var ",
-        VarDeclKind::Let => "let ",
-        VarDeclKind::Const => "const ",
+        VarDeclKind::Var => "var",
+        VarDeclKind::Let => "let",
+        VarDeclKind::Const => "const",
     }
 }
 

@@ -23,6 +23,12 @@ decreases-arguments l = 16 * goal.size-arguments l + 5
 abbrev pub decreases-array : goal.decreases-array
 decreases-array l = 16 * goal.size-array l + 4
 
+abbrev pub decreases-unary : goal.decreases-unary
+decreases-unary l = 16 * goal.size-unary l + 4
+
+abbrev pub decreases-construction : goal.decreases-construction
+decreases-construction l = 16 * goal.size-construction l + 6
+
 abbrev pub decreases-update : goal.decreases-update
 decreases-update l = 16 * goal.size-update l + 7
 
@@ -74,8 +80,11 @@ decreases-stmts l = 16 * goal.size-stmts l + 4
 abbrev pub decreases-word_and_expr : goal.decreases-word_and_expr
 decreases-word_and_expr l = 16 * goal.size-word_and_expr l + 3
 
+abbrev pub decreases-word_and_test : goal.decreases-word_and_test
+decreases-word_and_test l = 16 * goal.size-word_and_test l + 3
+
 abbrev pub decreases-head : goal.decreases-head
-decreases-head l = 16 * goal.size-head l + 3
+decreases-head l = 16 * goal.size-head l + 4
 
 abbrev pub decreases-if_stmt : goal.decreases-if_stmt
 decreases-if_stmt l = 16 * goal.size-if_stmt l
