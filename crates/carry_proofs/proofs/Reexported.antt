@@ -70,14 +70,14 @@ module _ (L : Links) (B : Name → Bool) (values : Name → Put) where
     respecified_more : {t u : Tree} (ts us : Forest) → Puts L t u → PutsAll L (respecified B values ts) (respecified B values us) → PutsAll L (respecified B values (t ⊳ ts)) (respecified B values (u ⊳ us))
     respecified_more ts us (puts_read y x e) k = puts_more (puts_read y x e) k
     respecified_more ts us (puts_type y x e) k = puts_more (puts_type y x e) k
-    respecified_more ts us (puts_shorthand y x e) k = puts_more (puts_shorthand y x e) k
+    respecified_more ts us (puts_shorthand y x e i) k = puts_more (puts_shorthand y x e i) k
     respecified_more ts us (puts_value y e (put_number z)) k = puts_more (puts_value y e (put_number z)) k
     respecified_more ts us (puts_value y e (put_text t)) k = puts_more (puts_value y e (put_text t)) k
     respecified_more ts us (puts_value y e (put_truth b)) k = puts_more (puts_value y e (put_truth b)) k
     respecified_more ts us (puts_value y e put_null) k = puts_more (puts_value y e put_null) k
     respecified_more ts us (puts_value y e (put_void z)) k = puts_more (puts_value y e (put_void z)) k
     respecified_more ts us (puts_value_type y e p) k = puts_more (puts_value_type y e p) k
-    respecified_more ts us (puts_value_shorthand y e p) k = puts_more (puts_value_shorthand y e p) k
+    respecified_more ts us (puts_value_shorthand y e p i) k = puts_more (puts_value_shorthand y e p i) k
     respecified_more ts us (puts_node (ExportSpecifier y o) e n h) k = specifier_puts y o (values y) h k
     respecified_more ts us (puts_node l e n h) k = put_same l e n h k
     respecified_more ts us (puts_import src) k = puts_more (puts_import src) k
@@ -89,14 +89,14 @@ module _ (L : Links) (B : Name → Bool) (values : Name → Put) where
   reexported_more : {t u : Tree} (ts us : Forest) → Puts L t u → PutsAll L (reexported B values ts) (reexported B values us) → PutsAll L (reexported B values (t ⊳ ts)) (reexported B values (u ⊳ us))
   reexported_more ts us (puts_read y x e) k = puts_more (puts_read y x e) k
   reexported_more ts us (puts_type y x e) k = puts_more (puts_type y x e) k
-  reexported_more ts us (puts_shorthand y x e) k = puts_more (puts_shorthand y x e) k
+  reexported_more ts us (puts_shorthand y x e i) k = puts_more (puts_shorthand y x e i) k
   reexported_more ts us (puts_value y e (put_number z)) k = puts_more (puts_value y e (put_number z)) k
   reexported_more ts us (puts_value y e (put_text t)) k = puts_more (puts_value y e (put_text t)) k
   reexported_more ts us (puts_value y e (put_truth b)) k = puts_more (puts_value y e (put_truth b)) k
   reexported_more ts us (puts_value y e put_null) k = puts_more (puts_value y e put_null) k
   reexported_more ts us (puts_value y e (put_void z)) k = puts_more (puts_value y e (put_void z)) k
   reexported_more ts us (puts_value_type y e p) k = puts_more (puts_value_type y e p) k
-  reexported_more ts us (puts_value_shorthand y e p) k = puts_more (puts_value_shorthand y e p) k
+  reexported_more ts us (puts_value_shorthand y e p i) k = puts_more (puts_value_shorthand y e p i) k
   reexported_more ts us (puts_node ExportNamed e n h) k = put_same ExportNamed refl tt (respecified_puts h) k
   reexported_more ts us (puts_node l e n h) k = put_same l e n h k
   reexported_more ts us (puts_import src) k = puts_more (puts_import src) k

@@ -3,13 +3,15 @@ use Rattle.std.proofs.Common.{◌≡◌, ℤ, Bool, true, false, not, ◌&&◌, 
 use Rattle.std.proofs.lemmas.Bool.{and_parts, and_from, false≢true}
 use Rattle.swc_ast.specs.declared.Span.{Span}
 use Rattle.swc_ast.specs.declared.UnaryOp.TheVariants.{TypeOf}
-use Rattle.swc_ast.specs.Tree.{Name, Text, NameKey, Label, Read, Shorthand, KeyValue, PlainKey, Unary, TypeOfName, ExportNamed, ExportSpecifier, Tree, node, Forest, ε, ◌⊳◌, label_of}
+use Rattle.swc_ast.specs.Tree.{Name, Text, Label, Read, Shorthand, KeyValue, Unary, TypeOfName, ExportNamed, ExportSpecifier, Tree, node, Forest, ε, ◌⊳◌, label_of}
 use Rattle.swc_ast.specs.Operators.{is_among}
 use Rattle.swc_ast.specs.Run.{export_text}
 use Rattle.swc_ast.specs.Value.{Value, Null, Truth, Num, Text as TextValue}
 use Rattle.swc_ast.specs.Resolved.{own_scopes, scopes, Targets, below, aimed, apart}
 use Rattle.swc_ast.specs.Valid.{is_word, is_identifier, is_optional_word, reserved_words, valid, valid_all}
 use Rattle.swc_ast.specs.Core.{in_range, fits, fits_all}
+use Rattle.tree_put.specs.Keys.{IsKey}
+use Rattle.tree_put.proofs.Keys.{key_is, key_binds, key_aimed, key_apart, key_fits, key_valid}
 use Rattle.link_proofs.specs.Links.{Put, nothing, a_name, a_value}
 use Rattle.carry_rules.specs.Carry.{Pass, constants, inlines, Facts, Carried, read_put, enter, after, value_tree, rebuilt, written, written_all, exported_put, respecified, reexported}
 use Rattle.carry_rules.specs.Parted.{has_parts, is_parted, are_parted}
@@ -58,15 +60,15 @@ module _ (V N : Type 0) where
   leaf : {t u : Tree} → ((x : Name) → scopes x t ≡ 0) → Puttable u → Leaf V N t u
   leaf f h = record { before = f; behind = h.binds_none; aimed_too = h.is_aimed; apart_too = h.stands_apart; valid_too = λ v e. h.is_valid v; fits_too = λ n e. h.in_core n }
 
-  property_leaf : (y : Name) (ss : List Span) (u : Tree) → Puttable u → Leaf V N (node (Shorthand y) ss ε) (node KeyValue ss (node (PlainKey (NameKey y.text)) ss ε ⊳ u ⊳ ε))
+  property_leaf : (y : Name) (ss : List Span) {k : Tree} (u : Tree) → IsKey y.text k → Puttable u → Leaf V N (node (Shorthand y) ss ε) (node KeyValue ss (k ⊳ u ⊳ ε))
   unfolding own_scopes
-  property_leaf y ss u h = record {
+  property_leaf y ss {k} u i h = record {
     before = λ x. refl;
-    behind = λ x. omega (arith, h.binds_none x);
-    aimed_too = λ g. and_from (aimed (below KeyValue g) u) true (h.is_aimed (below KeyValue g)) refl;
-    apart_too = and_from (apart u) true h.stands_apart refl;
-    valid_too = λ v e. and_from ((is_word y.text && true) && true) (valid u && true) (and_from (is_word y.text && true) true (and_from (is_word y.text) true (word_of y.text (and_parts (is_identifier y.text) true (and_parts (is_identifier y.text && true) true e).0).0) refl) refl) (and_from (valid u) true (h.is_valid v) refl);
-    fits_too = λ n e. and_from (fits u) true (h.in_core n) refl;
+    behind = λ x. omega (arith, key_binds i x, h.binds_none x);
+    aimed_too = λ g. and_from (aimed (below KeyValue g) k) (aimed (below KeyValue g) u && true) (key_aimed i (below KeyValue g)) (and_from (aimed (below KeyValue g) u) true (h.is_aimed (below KeyValue g)) refl);
+    apart_too = and_from (apart k) (apart u && true) (key_apart i) (and_from (apart u) true h.stands_apart refl);
+    valid_too = λ v e. and_from (valid k) (valid u && true) (key_valid i (word_of y.text (and_parts (is_identifier y.text) true (and_parts (is_identifier y.text && true) true e).0).0)) (and_from (valid u) true (h.is_valid v) refl);
+    fits_too = λ n e. and_from (fits k) (fits u && true) (key_fits i) (and_from (fits u) true (h.in_core n) refl);
   }
 
   module _ (B : Name → Bool) where
@@ -93,8 +95,8 @@ module _ (V N : Type 0) where
 
     short_like : (y : Name) (ss : List Span) (q : Put) {ts us : Forest} → Fit V N q → Like V N B ts us → Like V N B (node (Shorthand y) ss ε ⊳ ts) (rebuilt q (Shorthand y) ss ε ⊳ us)
     short_like y ss nothing h k = like_more (Shorthand y) like_none k
-    short_like y ss (a_name x) h k = like_leaf (Shorthand y) KeyValue refl refl (property_leaf y ss (node (Read x) ss ε) (name_puttable x ss (h.name x refl))) k
-    short_like y ss (a_value v) h k = like_leaf (Shorthand y) KeyValue refl refl (property_leaf y ss (value_tree v ss) (value_puttable v ss (fit_value v h))) k
+    short_like y ss (a_name x) h k = like_leaf (Shorthand y) KeyValue refl refl (property_leaf y ss (node (Read x) ss ε) (key_is y.text ss) (name_puttable x ss (h.name x refl))) k
+    short_like y ss (a_value v) h k = like_leaf (Shorthand y) KeyValue refl refl (property_leaf y ss (value_tree v ss) (key_is y.text ss) (value_puttable v ss (fit_value v h))) k
 
     module _ (p : Pass) (S : Facts) where
       short_fit : (q : Pass) (s : Carried) (y : Name) → Fine V N s → Fit V N (read_put q s (Shorthand y))

@@ -52,7 +52,8 @@ asks_none : (p : Pass) (l : Label) → asks_nothing l ≡ true → asked p l ≡
 asks_none p (tree.Read x) e = absurd (false≢true e)
 asks_none p (tree.TypeOfName x) e = absurd (false≢true e)
 asks_none p (tree.Shorthand x) e = absurd (false≢true e)
-asks_none p l e = refl
+asks_none constants l e = refl
+asks_none inlines l e = refl
 
 puts_none : (p : Pass) (s : Carried) (l : Label) → asks_nothing l ≡ true → read_put p s l ≡ nothing
 puts_none p s (tree.Read x) e = absurd (false≢true e)
@@ -221,6 +222,8 @@ module _ (p : Pass) (F : Facts) where
   parts_put (tree.Switch ds) ss (t ⊳ ts) r i e w s rest c q = ap (λ b. (node (tree.Switch ds) ss b.0, b.1)) (turn w s rest c q)
   parts_put (tree.Try (Some o)) ss (b ⊳ h ⊳ f ⊳ ε) r i e w s rest c q = ap (under (tree.Try (Some o)) ss) (turn w s rest c q)
   parts_put (tree.Try o) ss cs r i e w s rest c q = ap (under (tree.Try o) ss) (turn w s rest c q)
+  parts_put tree.Absent ss cs r i e w s rest c q = ap (under tree.Absent ss) (turn w s rest c q)
+  parts_put (tree.FnDecl x) ss cs r i e w s rest c q = ap (under (tree.FnDecl x) ss) (turn w s rest c q)
   parts_put l ss cs r i e w s rest c q = ap (under l ss) (turn w s rest c q)
 
   -- nodes

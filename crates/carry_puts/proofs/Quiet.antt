@@ -2,9 +2,9 @@
 use Rattle.std.proofs.Common.{◌≡◌, true, ◌||◌, if◌then◌else◌, List, [], ◌++◌, refl, ap, ap₂, ◌∙◌}
 use Rattle.swc_ast.specs.declared.Span.{Span}
 use Rattle.swc_ast.specs.declared.VarDeclKind.TheVariants.{Var, Let, Const}
-use Rattle.swc_ast.specs.Tree.{Label, Read, TypeOfName, Shorthand, Declarator, Tree, node, Forest, ε, ◌⊳◌}
+use Rattle.swc_ast.specs.Tree.{Name, Label, Read, TypeOfName, Shorthand, Declarator, Tree, node, Forest, ε, ◌⊳◌}
 use Rattle.link_proofs.specs.Links.{nothing}
-use Rattle.carry_rules.specs.Carry.{Pass, constants, Facts, Carried, put_unless, or_put, read_put, is_exempt, enter, leave, behind, after, after_all}
+use Rattle.carry_rules.specs.Carry.{Pass, constants, inlines, Facts, Carried, put_unless, or_put, shorthand_put, read_put, is_exempt, enter, leave, behind, after, after_all}
 use Rattle.carry_parts.specs.Reads.{asked, put_each, reads, reads_all}
 use Rattle.carry_puts.specs.Placed.{replaced, placed, placed_all}
 
@@ -22,10 +22,14 @@ module _ (p : Pass) (F : Facts) where
   entered_quiet s l ss cs q = ap (λ b. b || is_exempt p l) q
 
   -- nothing is put
+  quiet_shorthand : (r : Pass) (s : Carried) (y : Name) → s.quiet ≡ true → shorthand_put r s y ≡ nothing
+  quiet_shorthand constants s y q = ap (λ b. put_unless b (or_put (s.values y) (s.settled y))) q
+  quiet_shorthand inlines s y q = refl
+
   quiet_put : (r : Pass) (s : Carried) (l : Label) → s.quiet ≡ true → read_put r s l ≡ nothing
   quiet_put r s (Read y) q = ap (λ b. put_unless b (or_put (s.values y) (s.settled y))) q
   quiet_put r s (TypeOfName y) q = ap (λ b. put_unless b (or_put (s.values y) (s.settled y))) q
-  quiet_put constants s (Shorthand y) q = ap (λ b. put_unless b (or_put (s.values y) (s.settled y))) q
+  quiet_put r s (Shorthand y) q = quiet_shorthand r s y q
   quiet_put r s l q = refl
 
   mutual

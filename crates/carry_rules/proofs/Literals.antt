@@ -10,6 +10,8 @@ use Rattle.static_proofs.proofs.Names.{same_name_path, same_name_swap}
 use Rattle.link_proofs.specs.Links.{Put, nothing, a_name, a_value, reads, Proper}
 use Rattle.carry_rules.specs.Carry.{Pass, constants, inlines, Facts, declares_lexical, one, how_many, how_many_in, Carried, carried, put_unless, or_put, read_put, is_exempt, with_put, first_put, may_carry, entry, enter, leave, behind, after, after_all, value_tree, put_tree, rebuilt, written, written_all, exported_put, exported_name, respecified, reexported}
 use Rattle.carry_rules.specs.Late.{reads_name, reads_in, reads_in_all, declares_in, declares_in_all, is_late, is_late_all, is_carried, declares_literal}
+use Rattle.tree_put.specs.Keys.{IsKey, plain_key, text_key}
+use Rattle.tree_put.proofs.Keys.{key_is}
 use Rattle.carry_rules.proofs.Sound.{Last, link_of, known_of, links, Sure, Enters, Carries, agrees, agrees_all}
 use Rattle.carry_rules.proofs.Standing.{quiet_after, right_after, right_all_after, laid_after, laid_entered}
 use Rattle.carry_rules.proofs.Placing.{Fits, Valued, Laid, carried_fits}
@@ -85,6 +87,21 @@ value_early p x (Truth b) ss = refl
 value_early p x Null ss = refl
 value_early p x v ss = refl
 
+-- the key of a property that was only a name neither declares a name nor reads one
+key_declares : (p : Pass) (x : Name) {k : Text} {t : Tree} → IsKey k t → (ts : Forest) → declares_in_all p x (t ⊳ ts) ≡ declares_in_all p x ts
+key_declares p x plain_key ts = refl
+key_declares p x text_key ts = refl
+
+key_early : (p : Pass) (x : Name) {k : Text} {t : Tree} → IsKey k t → (ts : Forest) → is_late_all p x (t ⊳ ts) ≡ is_late_all p x ts
+key_early p x plain_key ts = refl
+key_early p x text_key ts = refl
+
+key_reads : (p : Pass) (x : Name) {k : Text} {t : Tree} → IsKey k t → (ts : Forest) → reads_in_all p x (t ⊳ ts) ≡ reads_in_all p x ts
+key_reads constants x plain_key ts = refl
+key_reads inlines x plain_key ts = refl
+key_reads constants x text_key ts = refl
+key_reads inlines x text_key ts = refl
+
 alone : (a b : Bool) → a ≡ false → (a || ((b && false) || false)) ≡ false
 alone false true e = refl
 alone false false e = refl
@@ -95,22 +112,22 @@ rebuilt_declares : (p : Pass) (x : Name) (q : Put) (l : Label) (ss : List Span) 
 rebuilt_declares p x nothing l ss cs e = e
 rebuilt_declares p x (a_name z) (Read y) ss cs e = absurd (false≢true e)
 rebuilt_declares p x (a_name z) (TypeOfName y) ss cs e = absurd (false≢true e)
-rebuilt_declares p x (a_name z) (Shorthand y) ss cs e = absurd (false≢true e)
+rebuilt_declares p x (a_name z) (Shorthand y) ss cs e = absurd (false≢true (sym (key_declares p x (key_is y.text ss) (node (Read z) ss ε ⊳ ε)) ∙ e))
 rebuilt_declares p x (a_name z) l ss cs e = e
 rebuilt_declares p x (a_value v) (Read y) ss cs e = absurd (false≢true (sym (value_bare p x v ss) ∙ e))
 rebuilt_declares p x (a_value v) (TypeOfName y) ss cs e = absurd (false≢true (sym (or_from (declares_in p x (value_tree v ss)) false (value_bare p x v ss) refl) ∙ e))
-rebuilt_declares p x (a_value v) (Shorthand y) ss cs e = absurd (false≢true (sym (or_from (declares_in p x (value_tree v ss)) false (value_bare p x v ss) refl) ∙ e))
+rebuilt_declares p x (a_value v) (Shorthand y) ss cs e = absurd (false≢true (sym (key_declares p x (key_is y.text ss) (value_tree v ss ⊳ ε) ∙ or_from (declares_in p x (value_tree v ss)) false (value_bare p x v ss) refl) ∙ e))
 rebuilt_declares p x (a_value v) l ss cs e = e
 
 rebuilt_early : (p : Pass) (x : Name) (q : Put) (l : Label) (ss : List Span) (cs : Forest) → is_late p x (node l ss cs) ≡ false → is_late p x (rebuilt q l ss cs) ≡ false
 rebuilt_early p x nothing l ss cs e = e
 rebuilt_early p x (a_name z) (Read y) ss cs e = refl
 rebuilt_early p x (a_name z) (TypeOfName y) ss cs e = refl
-rebuilt_early p x (a_name z) (Shorthand y) ss cs e = refl
+rebuilt_early p x (a_name z) (Shorthand y) ss cs e = key_early p x (key_is y.text ss) (node (Read z) ss ε ⊳ ε)
 rebuilt_early p x (a_name z) l ss cs e = e
 rebuilt_early p x (a_value v) (Read y) ss cs e = value_early p x v ss
 rebuilt_early p x (a_value v) (TypeOfName y) ss cs e = alone (is_late p x (value_tree v ss)) (declares_in p x (value_tree v ss)) (value_early p x v ss)
-rebuilt_early p x (a_value v) (Shorthand y) ss cs e = alone (is_late p x (value_tree v ss)) (declares_in p x (value_tree v ss)) (value_early p x v ss)
+rebuilt_early p x (a_value v) (Shorthand y) ss cs e = key_early p x (key_is y.text ss) (value_tree v ss ⊳ ε) ∙ alone (is_late p x (value_tree v ss)) (declares_in p x (value_tree v ss)) (value_early p x v ss)
 rebuilt_early p x (a_value v) l ss cs e = e
 
 module _ (p : Pass) (F : Facts) (x : Name) where
@@ -233,8 +250,8 @@ module _ {p : Pass} {F : Facts} {E : Last} {lex : Name → Bool} (sure : Sure p 
 
   short_gone : (c : Pass) (s : Carried) (y : Name) (w : Value) (ss : List Span) (cs : Forest) (q : Put) → read_put c s (Shorthand y) ≡ q → ((carried s y ≡ nothing → same_name x y ≡ false)) → (carried s y ≡ q → (q ≡ nothing → ⊥) → reads_in c x (put_tree y q ss) ≡ false) → reads_in_all c x cs ≡ false → reads_in c x (rebuilt q (Shorthand y) ss cs) ≡ false
   short_gone constants s y w ss cs nothing i g e n = or_from (same_name x y) (reads_in_all constants x cs) (g i) n
-  short_gone constants s y w ss cs (a_name z) i g e n = or_from (reads_in constants x (put_tree y (a_name z) ss)) false (e i (λ e. cc)) refl
-  short_gone constants s y w ss cs (a_value v) i g e n = or_from (reads_in constants x (put_tree y (a_value v) ss)) false (e i (λ e. cc)) refl
+  short_gone constants s y w ss cs (a_name z) i g e n = key_reads constants x (key_is y.text ss) (put_tree y (a_name z) ss ⊳ ε) ∙ or_from (reads_in constants x (put_tree y (a_name z) ss)) false (e i (λ e. cc)) refl
+  short_gone constants s y w ss cs (a_value v) i g e n = key_reads constants x (key_is y.text ss) (put_tree y (a_value v) ss ⊳ ε) ∙ or_from (reads_in constants x (put_tree y (a_value v) ss)) false (e i (λ e. cc)) refl
   short_gone inlines s y w ss cs nothing i g e n = n
   short_gone inlines s y w ss cs (a_name z) i g e n = absurd (cc)
   short_gone inlines s y w ss cs (a_value v) i g e n = absurd (cc)

@@ -6,6 +6,7 @@ use Rattle.swc_ast.specs.Tree.{Name, Text, Label, Read, TypeOfName, Shorthand, I
 use Rattle.swc_ast.specs.Value.{Value}
 use Rattle.swc_ast.specs.Run.{source_of}
 use Rattle.link_proofs.specs.Links.{Put, nothing, a_name, a_value, reads, ReadsNone, PutTree, Puts, puts_read, puts_type, puts_shorthand, puts_value, puts_value_type, puts_value_shorthand, puts_node, puts_import, PutsAll, puts_end, puts_more}
+use Rattle.tree_put.proofs.Keys.{key_is}
 use Rattle.carry_rules.specs.Carry.{Pass, constants, inlines, Facts, Carried, carried, or_put, read_put, enter, after, mark_of, marks, marks_all, value_tree, rebuilt}
 use Rattle.carry_rules.specs.Parted.{has_parts, is_parted, are_parted}
 use Rattle.carry_rules.proofs.Sound.{Last, links, put_is, Sure, agrees, agrees_all}
@@ -73,8 +74,8 @@ module _ {p : Pass} {F : Facts} {E : Last} {lex : Name → Bool} (sure : Sure p 
 
   shorthand_puts : (y : Name) (ss : List Span) (q : Put) → Fits E y q → Puts (links F E) (node (Shorthand y) (mark_of q) ε) (rebuilt q (Shorthand y) ss ε)
   shorthand_puts y ss nothing f = puts_node (Shorthand y) refl refl puts_end
-  shorthand_puts y ss (a_name x) f = puts_shorthand y x (put_is (E.values y) (E.settled y) ∙ name_is y x f)
-  shorthand_puts y ss (a_value v) f = puts_value_shorthand y (put_is (E.values y) (E.settled y) ∙ value_is y v f) (valued y v ss (value_is y v f))
+  shorthand_puts y ss (a_name x) f = puts_shorthand y x (put_is (E.values y) (E.settled y) ∙ name_is y x f) (key_is y.text ss)
+  shorthand_puts y ss (a_value v) f = puts_value_shorthand y (put_is (E.values y) (E.settled y) ∙ value_is y v f) (valued y v ss (value_is y v f)) (key_is y.text ss)
 
   shorthand_fits : (q : Pass) (s : Carried) (y : Name) → Fits E y (carried s y) → Fits E y (read_put q s (Shorthand y))
   shorthand_fits constants s y f = f

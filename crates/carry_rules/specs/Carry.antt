@@ -4,13 +4,14 @@ use Rattle.std.specs.Prelude.{ℕ, ◌+◌, Bool, true, false, not, ◌&&◌, �
 use Rattle.swc_ast.specs.declared.Span.{Span}
 use Rattle.swc_ast.specs.declared.UnaryOp.TheVariants.{TypeOf, Void, Delete}
 use Rattle.swc_ast.specs.declared.VarDeclKind.TheVariants.{Var, Let, Const}
-use Rattle.swc_ast.specs.Tree.{Name, same_name, NameKey, Label, NumLit, StrLit, BoolLit, NullLit, Read, Shorthand, KeyValue, PlainKey, Fn, Params, Param, Unary, TypeOfName, Assign, AssignDot, AssignIndex, Update, UpdateDot, UpdateIndex, Block, Body, CaseBody, Switch, Try, Module, Script, VarDecl, Declarator, FnDecl, Import, ImportNamed, ImportDefault, ImportStar, ExportDecl, ExportNamed, ExportSpecifier, ExportDefaultFn, Tree, node, Forest, ε, ◌⊳◌}
+use Rattle.swc_ast.specs.Tree.{Name, same_name, Label, NumLit, StrLit, BoolLit, NullLit, Read, Shorthand, KeyValue, Fn, Params, Param, Unary, TypeOfName, Assign, AssignDot, AssignIndex, Update, UpdateDot, UpdateIndex, Block, Body, CaseBody, Switch, Try, Module, Script, VarDecl, Declarator, FnDecl, Import, ImportNamed, ImportDefault, ImportStar, ExportDecl, ExportNamed, ExportSpecifier, ExportDefaultFn, Tree, node, Forest, ε, ◌⊳◌}
 use Rattle.swc_ast.specs.Value.{Value, Undefined, Null, Truth, Num, Text as TextValue}
 use Rattle.swc_ast.specs.Scope.{is_function, has_name, option_name, param_names, list_binds, case_statements}
 use Rattle.swc_ast.specs.Redex.{is_dummy}
 use Rattle.swc_ast.specs.Expressions.{is_eval}
 use Rattle.swc_ast.specs.Resolved.{is_default}
 use Rattle.swc_ast.specs.Run.{export_text}
+use Rattle.tree_put.specs.Keys.{property_key}
 use Rattle.link_proofs.specs.Links.{Put, nothing, a_name, a_value, literal_value, put_known}
 
 -- the pass that carries constants, and the one that inlines
@@ -319,7 +320,7 @@ rebuilt nothing l ss cs = node l ss cs
 rebuilt q (Read y) ss cs = put_tree y q ss
 rebuilt (a_name x) (TypeOfName y) ss cs = node (TypeOfName x) ss ε
 rebuilt (a_value v) (TypeOfName y) ss cs = node (Unary TypeOf) ss (value_tree v ss ⊳ ε)
-rebuilt q (Shorthand y) ss cs = node KeyValue ss (node (PlainKey (NameKey y.text)) ss ε ⊳ put_tree y q ss ⊳ ε)
+rebuilt q (Shorthand y) ss cs = node KeyValue ss (property_key y.text ss ⊳ put_tree y q ss ⊳ ε)
 rebuilt q l ss cs = node l ss cs
 
 module _ (p : Pass) (F : Facts) where

@@ -4,7 +4,7 @@ use Rattle.std.proofs.lemmas.Bool.{and_parts}
 use Rattle.swc_ast.specs.declared.Span.{Span}
 use Rattle.swc_ast.specs.declared.UnaryOp.TheVariants.{Minus, Plus, Bang, Tilde, Void, TypeOf, Delete}
 use Rattle.swc_ast.specs.Expressions.{unary_node}
-use Rattle.swc_ast.specs.Tree.{Text, Name, NameKey, Label, Read, KeyValue, Shorthand, PlainKey, TypeOfName, Unary, Dot, Index, Call, CallEval, CallDot, CallIndex, Import, Tree, node, Forest, ε, ◌⊳◌, label_of}
+use Rattle.swc_ast.specs.Tree.{Text, Name, Label, Read, KeyValue, Shorthand, TypeOfName, Unary, Dot, Index, Call, CallEval, CallDot, CallIndex, Import, Tree, node, Forest, ε, ◌⊳◌, label_of}
 use Rattle.swc_ast.specs.Scope.{is_function, vars}
 use Rattle.swc_ast.specs.Operators.{is_among}
 use Rattle.swc_ast.specs.Valid.{is_identifier, is_word, reserved_words, good_names, good_shape, valid, valid_all}
@@ -23,8 +23,10 @@ use Rattle.static_proofs.proofs.Spared.{walk_spares, spared_none}
 use Rattle.static_proofs.proofs.Walked.{walks_itself}
 use Rattle.static_proofs.proofs.Whole.{resolved_kept, core_kept}
 use Rattle.tree_put.specs.Put as walk
+use Rattle.tree_put.specs.Keys.{IsKey}
 use Rattle.tree_put.specs.declared.rules.Spot.{Spot}
 use Rattle.given_rules.specs.Givable.{IsGivable}
+use Rattle.tree_put.proofs.Keys.{key_is, key_binds, key_aimed, key_apart, key_fits, key_valid}
 use Rattle.given_rules.specs.Put.{here, callee, operand, Puts, behind, or_parts, called, of_type, as_property, first_spot, around, put, put_all}
 
 -- what happens at a node in front of its parts
@@ -33,7 +35,7 @@ pub data Did : Tree → Tree → Type 0 where
   dot_called : {k : Text} {ss rs : List Span} {o v : Tree} {ts : Forest} → IsGivable v → Did (node (CallDot k) ss (o ⊳ ts)) (node Call rs (v ⊳ ts))
   index_called : {ss rs : List Span} {o j v : Tree} {ts : Forest} → IsGivable v → Did (node CallIndex ss (o ⊳ j ⊳ ts)) (node Call rs (v ⊳ ts))
   name_called : {x : Name} {ss rs : List Span} {v : Tree} {ts : Forest} → IsGivable v → Did (node (CallEval x) ss ts) (node Call rs (v ⊳ ts))
-  valued : {x : Name} {ss : List Span} {cs : Forest} {v : Tree} → IsGivable v → Did (node (Shorthand x) ss cs) (node KeyValue [] (node (PlainKey (NameKey x.text)) ss ε ⊳ v ⊳ ε))
+  valued : {x : Name} {ss : List Span} {cs : Forest} {c v : Tree} → IsKey x.text c → IsGivable v → Did (node (Shorthand x) ss cs) (node KeyValue [] (c ⊳ v ⊳ ε))
 
 -- two expressions of which the second holds no more
 expression_keeps : {t u : Tree} → is_expression (label_of t) ≡ true → is_expression (label_of u) ≡ true → ((x : Name) → scopes x u ≤ scopes x t) → (valid t ≡ true → valid u ≡ true) → ((g : Targets) → aimed g t ≡ true → aimed g u ≡ true) → (apart t ≡ true → apart u ≡ true) → (fits t ≡ true → fits u ≡ true) → Keeps t u
@@ -88,15 +90,15 @@ short_word x ss cs h = word_of x.text (and_parts (is_identifier x.text) true (an
 
 pub did_keeps : (t u : Tree) → Did t u → Keeps t u
 unfolding own_scopes
-did_keeps t u (valued {x} {ss} {cs} {v} g) = keeps_plain (short_plain x ss cs) (value_plain [] (node (PlainKey (NameKey x.text)) ss ε ⊳ v ⊳ ε)) (λ y. omega (arith, g.binds_none y)) (within_none [])
-    (λ h. both_true (both_true (both_true (short_word x ss cs h) refl) refl) (both_true g.is_valid refl)) (λ j h. both_true (g.jumps (below KeyValue j)) refl) (λ h. both_true g.stands_apart refl) (λ h. both_true g.in_core refl)
+did_keeps t u (valued {x} {ss} {cs} {c} {v} k g) = keeps_plain (short_plain x ss cs) (value_plain [] (c ⊳ v ⊳ ε)) (λ y. omega (arith, key_binds k y, g.binds_none y)) (within_none [])
+    (λ h. both_true (key_valid k (short_word x ss cs h)) (both_true g.is_valid refl)) (λ j h. both_true (key_aimed k (below KeyValue j)) (both_true (g.jumps (below KeyValue j)) refl)) (λ h. both_true (key_apart k) (both_true g.stands_apart refl)) (λ h. both_true (key_fits k) (both_true g.in_core refl))
 did_keeps t u (taken p g) = expression_keeps p g.expression (λ x. omega (arith, g.binds_none x)) (λ h. g.is_valid) (λ j h. g.jumps j) (λ h. g.stands_apart) (λ h. g.in_core)
 did_keeps t u (dot_called {k} {ss} {rs} {o} {v} {ts} g) = called_keeps (CallDot k) ss rs (o ⊳ ts) ts v refl g (λ x. omega arith) (λ h. valid_rest o ts (valid_children (CallDot k) ss (o ⊳ ts) h)) (λ j h. aimed_rest (below (CallDot k) j) o ts (aimed_children j (CallDot k) ss (o ⊳ ts) h)) (λ h. apart_rest o ts (apart_children (CallDot k) ss (o ⊳ ts) h)) (λ h. fits_rest o ts (fits_children (CallDot k) ss (o ⊳ ts) h))
 did_keeps t u (index_called {ss} {rs} {o} {j} {v} {ts} g) = called_keeps CallIndex ss rs (o ⊳ j ⊳ ts) ts v refl g (λ x. omega arith) (λ h. valid_rest j ts (valid_rest o (j ⊳ ts) (valid_children CallIndex ss (o ⊳ j ⊳ ts) h))) (λ i h. aimed_rest (below CallIndex i) j ts (aimed_rest (below CallIndex i) o (j ⊳ ts) (aimed_children i CallIndex ss (o ⊳ j ⊳ ts) h))) (λ h. apart_rest j ts (apart_rest o (j ⊳ ts) (apart_children CallIndex ss (o ⊳ j ⊳ ts) h))) (λ h. fits_rest j ts (fits_rest o (j ⊳ ts) (fits_children CallIndex ss (o ⊳ j ⊳ ts) h)))
 did_keeps t u (name_called {x} {ss} {rs} {v} {ts} g) = called_keeps (CallEval x) ss rs ts ts v refl g (λ y. omega arith) (λ h. valid_children (CallEval x) ss ts h) (λ j h. aimed_children j (CallEval x) ss ts h) (λ h. apart_children (CallEval x) ss ts h) (λ h. fits_children (CallEval x) ss ts h)
 
 did_spares : {P : Name → Type 0} (t u : Tree) → Did t u → Spares P t u
-did_spares t u (valued {x} {ss} {cs} {v} g) = spares_plain (short_plain x ss cs) (value_plain [] (node (PlainKey (NameKey x.text)) ss ε ⊳ v ⊳ ε)) (spared_none [])
+did_spares t u (valued {x} {ss} {cs} {c} {v} k g) = spares_plain (short_plain x ss cs) (value_plain [] (c ⊳ v ⊳ ε)) (spared_none [])
 did_spares {P} t u (taken p g) = spares_plain (expression_plain t p) (expression_plain u g.expression) (subst (λ xs. Spared P xs (vars u)) (sym (expression_quiet t p).no_vars) (spared_none (vars u)))
 did_spares t u (dot_called {k} {ss} {rs} {o} {v} {ts} g) = spares_plain (expression_plain (node (CallDot k) ss (o ⊳ ts)) refl) (expression_plain (node Call rs (v ⊳ ts)) refl) (spared_none [])
 did_spares t u (index_called {ss} {rs} {o} {j} {v} {ts} g) = spares_plain (expression_plain (node CallIndex ss (o ⊳ j ⊳ ts)) refl) (expression_plain (node Call rs (v ⊳ ts)) refl) (spared_none [])
@@ -152,7 +154,7 @@ module _ {X : Puts} (g : PutsGivable X) where
 
   short_walks : (x : Name) (ss : List Span) (cs : Forest) (w : Tree) (m : Option Tree) → X.property x ≡ m → Walks Did (node (Shorthand x) ss cs) w → Walks Did (node (Shorthand x) ss cs) (as_property m x ss w)
   short_walks x ss cs w None e b = b
-  short_walks x ss cs w (Some v) e b = early (valued (g.properties x v e)) (walks_itself Did (node KeyValue [] (node (PlainKey (NameKey x.text)) ss ε ⊳ v ⊳ ε)))
+  short_walks x ss cs w (Some v) e b = early (valued (key_is x.text ss) (g.properties x v e)) (walks_itself Did (walk.as_property x ss v))
 
   mutual
     unfolding put put_all

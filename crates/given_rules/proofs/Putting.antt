@@ -4,10 +4,10 @@ use Rattle.std.proofs.lemmas.Bool.{false≢true}
 use Rattle.swc_ast.specs.Labels.{is_member_or_name}
 use Rattle.swc_ast.specs.declared.Span.{Span}
 use Rattle.swc_ast.specs.declared.UnaryOp.TheVariants.{TypeOf}
-use Rattle.swc_ast.specs.Tree.{Text, Name, NameKey, Label, StrLit, Read, KeyValue, Shorthand, PlainKey, TypeOfName, Unary, Dot, Index, Call, CallEval, CallDot, CallIndex, Tree, node, Forest, ε, ◌⊳◌, label_of}
-use Rattle.swc_ast.specs.Value.{Meaning, and_then}
+use Rattle.swc_ast.specs.Tree.{Text, Name, NameKey, Label, StrLit, Read, KeyValue, Shorthand, PlainKey, ComputedKey, TypeOfName, Unary, Dot, Index, Call, CallEval, CallDot, CallIndex, Tree, node, Forest, ε, ◌⊳◌, label_of}
+use Rattle.swc_ast.specs.Value.{Text as TextValue, Meaning, and_then}
 use Rattle.swc_ast.specs.Scope.{declarator_name, declarator_names}
-use Rattle.swc_ast.specs.Meaning.{◌>>=◌, leaves, one_field, Caller, act}
+use Rattle.swc_ast.specs.Meaning.{◌>>=◌, gives, leaves, one_field, Caller, act}
 use Rattle.swc_ast.specs.Call.{each_of, call_at}
 use Rattle.swc_ast.specs.Run.{specifier_exports, specifier_export}
 use Rattle.meaning_proofs.specs.Exact.{Exact, Trimmed, left_core}
@@ -20,6 +20,7 @@ use Rattle.meaning_proofs.proofs.Quiet.{declares_nothing, fits_nothing}
 use Rattle.meaning_proofs.proofs.Walking.{names_of, specifiers_of, other_declarator, other_specifier}
 use Rattle.swc_pass.specs.Given.{Owners, plain, owned, all_owned, Stand, as_written, in_itself, stands, Answers, for_read, for_type, room, taken, apart, with_part, act_given, eval_within}
 use Rattle.given_rules.specs.Met.{own_found, is_known}
+use Rattle.tree_put.specs.Keys.{IsKey, plain_key, text_key}
 use Rattle.tree_put.specs.declared.rules.Spot.{Spot}
 use Rattle.given_shield.specs.Shield.{is_bare_operand}
 use Rattle.given_rules.specs.Put.{operand, Puts, or_parts}
@@ -189,21 +190,26 @@ module _ (a : Answers) (mark : ℕ) where
           ∙ call_does n call (Read x) refl ss ε ts q g _
 
       -- a property that was only a name has the value that stands for it
-      property_acts : (n : ℕ) (call : Caller) (x : Name) (m : Meaning) (cs : Forest) → (λ c. m c >>= λ w. one_field x.text w) ≡ act_given a mark n call (eval_within a mark n call k) KeyValue os cs (act_given a mark n call (eval_within a mark n call k) (PlainKey (NameKey x.text)) os ε [] ∷ m ∷ [])
+      key_does : (n : ℕ) (call : Caller) {t : Text} {c : Tree} → IsKey t c → does a mark n call (owned os c) ≡ (λ _. gives (TextValue t))
+      unfolding act act_given
+      key_does n call {t} (plain_key {ss}) = does_acts a mark n call k os e (PlainKey (NameKey t)) ss ε
+      key_does n call {t} (text_key {ss} {rs}) = does_acts a mark n call k os e ComputedKey ss (node (StrLit t) rs ε ⊳ ε) ∙ does_acts a mark n call k os e (StrLit t) rs ε
+
+      property_acts : (n : ℕ) (call : Caller) (x : Name) (m : Meaning) (cs : Forest) → (λ c. m c >>= λ w. one_field x.text w) ≡ act_given a mark n call (eval_within a mark n call k) KeyValue os cs ((λ _. gives (TextValue x.text)) ∷ m ∷ [])
       unfolding act act_given and_then
       property_acts n call x m cs = refl
 
-      pub property_does : (n : ℕ) (call : Caller) (x : Name) (ss : List Span) (cs : Forest) {s : Stand} → for_read a os (node (Read x) os ε) ≡ s → IsGiven s
-          → does a mark n call (owned os (node (Shorthand x) ss cs)) ≡ does a mark n call (owned os (node KeyValue [] (node (PlainKey (NameKey x.text)) ss ε ⊳ node (Read x) ss ε ⊳ ε)))
+      pub property_does : (n : ℕ) (call : Caller) (x : Name) {c : Tree} (ss : List Span) (cs : Forest) {s : Stand} → IsKey x.text c → for_read a os (node (Read x) os ε) ≡ s → IsGiven s
+          → does a mark n call (owned os (node (Shorthand x) ss cs)) ≡ does a mark n call (owned os (node KeyValue [] (c ⊳ node (Read x) ss ε ⊳ ε)))
       unfolding act_given
-      property_does n call x ss cs {s} q g =
+      property_does n call x {c} ss cs {s} j q g =
           does_acts a mark n call k os e (Shorthand x) ss cs
           ∙ ap (λ s. with_part a mark n call (eval_within a mark n call k) s os (Shorthand x) (each_of (does a mark n call) (all_owned os cs)) (act mark n call (Shorthand x) os (all_owned os cs) (each_of (does a mark n call) (all_owned os cs)))) q
           ∙ with_given n call (Shorthand x) (each_of (does a mark n call) (all_owned os cs)) (act mark n call (Shorthand x) os (all_owned os cs) (each_of (does a mark n call) (all_owned os cs))) g
           ∙ ap (λ m. λ c. m c >>= λ w. one_field x.text w) (taken_any n call _ _ g ∙ sym (read_does n call (Read x) refl ss ε q))
-          ∙ property_acts n call x (does a mark n call (owned os (node (Read x) ss ε))) (all_owned os (node (PlainKey (NameKey x.text)) ss ε ⊳ node (Read x) ss ε ⊳ ε))
-          ∙ ap (λ m. act_given a mark n call (eval_within a mark n call k) KeyValue os (all_owned os (node (PlainKey (NameKey x.text)) ss ε ⊳ node (Read x) ss ε ⊳ ε)) (m ∷ does a mark n call (owned os (node (Read x) ss ε)) ∷ [])) (sym (does_acts a mark n call k os e (PlainKey (NameKey x.text)) ss ε))
-          ∙ sym (does_acts a mark n call k os e KeyValue [] (node (PlainKey (NameKey x.text)) ss ε ⊳ node (Read x) ss ε ⊳ ε))
+          ∙ property_acts n call x (does a mark n call (owned os (node (Read x) ss ε))) (all_owned os (c ⊳ node (Read x) ss ε ⊳ ε))
+          ∙ ap (λ m. act_given a mark n call (eval_within a mark n call k) KeyValue os (all_owned os (c ⊳ node (Read x) ss ε ⊳ ε)) (m ∷ does a mark n call (owned os (node (Read x) ss ε)) ∷ [])) (sym (key_does n call j))
+          ∙ sym (does_acts a mark n call k os e KeyValue [] (c ⊳ node (Read x) ss ε ⊳ ε))
 
       -- `typeof` of a name is `typeof` of what stands for it
       pub type_does : (n : ℕ) (call : Caller) (x : Name) (ss : List Span) (cs : Forest) {s : Stand} → for_read a os (node (Read x) os ε) ≡ s → IsGiven s

@@ -4,7 +4,7 @@ use Rattle.std.proofs.lemmas.Bool.{false≢true, true≢false}
 use Rattle.swc_ast.specs.Labels.{is_var_declaration, is_member_or_name}
 use Rattle.swc_ast.specs.declared.Span.{Span}
 use Rattle.swc_ast.specs.declared.UnaryOp.TheVariants.{Minus, Plus, Bang, Tilde, Void, TypeOf, Delete}
-use Rattle.swc_ast.specs.Tree.{Text, Name, NameKey, Label, StrLit, Read, KeyValue, Shorthand, PlainKey, TypeOfName, Unary, Dot, Index, Call, CallEval, CallDot, CallIndex, VarDecl, FnDecl, Import, ExportDecl, ExportNamed, Tree, node, Forest, ε, ◌⊳◌, label_of}
+use Rattle.swc_ast.specs.Tree.{Text, Name, NameKey, Label, StrLit, Read, KeyValue, Shorthand, PlainKey, ComputedKey, TypeOfName, Unary, Dot, Index, Call, CallEval, CallDot, CallIndex, VarDecl, FnDecl, Import, ExportDecl, ExportNamed, Tree, node, Forest, ε, ◌⊳◌, label_of}
 use Rattle.swc_ast.specs.Value.{Meaning, and_then}
 use Rattle.swc_ast.specs.Expressions.{unary_node}
 use Rattle.swc_ast.specs.Meaning.{Caller, is_unresolved, is_host_name, type_of_name, eval, evals, act}
@@ -20,9 +20,11 @@ use Rattle.swc_pass.specs.Given.{Owners, is_as_written, owned, all_owned, nothin
 use Rattle.given_rules.specs.Met.{joined, met_open, met_at, own_found, met, met_each, covers, is_known}
 use Rattle.given_rules.proofs.Covered.{Spanless, covers_both, known_open, dot_behind, index_behind, eval_behind, known_at, nothing_found}
 use Rattle.tree_put.specs.Put as walk
+use Rattle.tree_put.specs.Keys.{IsKey, plain_key, text_key}
 use Rattle.tree_put.specs.declared.rules.Spot.{Spot}
 use Rattle.given_shield.specs.Shield.{is_bare_operand}
 use Rattle.given_rules.specs.Put.{here, callee, operand, Puts, front, behind, or_parts, called, of_type, as_property, first_spot, around, put, put_all}
+use Rattle.tree_put.proofs.Keys.{key_is}
 use Rattle.given_rules.proofs.Standing.{does, all_room, does_acts, free_unfolds}
 use Rattle.given_rules.proofs.Plain.{kept_by, ImportStays, specifiers_stay, part_written, type_written, Leaves}
 use Rattle.given_rules.proofs.Putting.{may_go, IsGiven, R, PutFor, nothing_put, any_put, value_put, TypePut, no_text, no_need, text_put, Lawful, same_names, same_specifiers, leaving, stands_for, given_read, put_read, given_of, dot_does, index_does, name_does, property_does, type_does}
@@ -106,18 +108,23 @@ module _ {a : Answers} (mark : ℕ) (h : Leaves a) (k : ℕ) (os : Owners) (e : 
   put_call t d lp i ss ps ts us s (Some z) q m f g u w = call_given t d lp i ss ps ts us s z q m f g
 
   -- a property that was only a name, for which something stands
-  property_given : (x : Name) (ss : List Span) (cs : Forest) (s : Stand) (z : Tree) → for_read a os (node (Read x) os ε) ≡ s → PutFor a mark os s (Some z) → Q (owned os (node (Shorthand x) ss cs)) (node KeyValue [] (node (PlainKey (NameKey x.text)) ss ε ⊳ z ⊳ ε))
-  property_given x ss cs s z q m =
+  key_stays : {t : Text} {c : Tree} → IsKey t c → Q (owned os c) c
+  key_stays {t} (plain_key {ss}) = with_children (PlainKey (NameKey t)) ss ε ε (free_unfolds a mark k os e (PlainKey (NameKey t)) ss ε refl) tt tt (λ b. nil)
+  key_stays {t} (text_key {ss} {rs}) =
+      let text : Q (owned os (node (StrLit t) rs ε)) (node (StrLit t) rs ε) = with_children (StrLit t) rs ε ε (free_unfolds a mark k os e (StrLit t) rs ε refl) tt tt (λ b. nil) in
+      with_children ComputedKey ss (node (StrLit t) rs ε ⊳ ε) (node (StrLit t) rs ε ⊳ ε) (free_unfolds a mark k os e ComputedKey ss (node (StrLit t) rs ε ⊳ ε) refl) tt tt (λ b. cons text nil)
+
+  property_given : (x : Name) {c : Tree} (ss : List Span) (cs : Forest) (s : Stand) (z : Tree) → IsKey x.text c → for_read a os (node (Read x) os ε) ≡ s → PutFor a mark os s (Some z) → Q (owned os (node (Shorthand x) ss cs)) (node KeyValue [] (c ⊳ z ⊳ ε))
+  property_given x {c} ss cs s z j q m =
       let r : Q (owned os (node (Read x) ss ε)) z = given_read a mark h k os e (Read x) refl ss ε q m in
-      let key : Q (owned os (node (PlainKey (NameKey x.text)) ss ε)) (node (PlainKey (NameKey x.text)) ss ε) = with_children (PlainKey (NameKey x.text)) ss ε ε (free_unfolds a mark k os e (PlainKey (NameKey x.text)) ss ε refl) tt tt (λ b. nil) in
-      stands_for a mark h (owned os (node (Shorthand x) ss cs)) (owned os (node KeyValue [] (node (PlainKey (NameKey x.text)) ss ε ⊳ node (Read x) ss ε ⊳ ε))) (node KeyValue [] (node (PlainKey (NameKey x.text)) ss ε ⊳ z ⊳ ε)) refl refl (λ n call. property_does a mark h k os e n call x ss cs q (given_of a mark h k os e {z = z} m))
-      (only_kept (kept_by KeyValue os [] (all_owned os (node (PlainKey (NameKey x.text)) ss ε ⊳ node (Read x) ss ε ⊳ ε)) (node (PlainKey (NameKey x.text)) ss ε ⊳ z ⊳ ε) (free_unfolds a mark k os e KeyValue [] (node (PlainKey (NameKey x.text)) ss ε ⊳ node (Read x) ss ε ⊳ ε) refl) tt tt (cons key (cons r nil)) (cons key (cons r nil))))
+      stands_for a mark h (owned os (node (Shorthand x) ss cs)) (owned os (node KeyValue [] (c ⊳ node (Read x) ss ε ⊳ ε))) (node KeyValue [] (c ⊳ z ⊳ ε)) refl refl (λ n call. property_does a mark h k os e n call x ss cs j q (given_of a mark h k os e {z = z} m))
+      (only_kept (kept_by KeyValue os [] (all_owned os (c ⊳ node (Read x) ss ε ⊳ ε)) (c ⊳ z ⊳ ε) (free_unfolds a mark k os e KeyValue [] (c ⊳ node (Read x) ss ε ⊳ ε) refl) tt tt (cons (key_stays j) (cons r nil)) (cons (key_stays j) (cons r nil))))
 
   put_property : (x : Name) (ss : List Span) (cs : Forest) (s : Stand) (o : Option Tree) → for_read a os (node (Read x) os ε) ≡ s → PutFor a mark os s o → (u : Tree) → (s ≡ as_written → Q (owned os (node (Shorthand x) ss cs)) u) → Q (owned os (node (Shorthand x) ss cs)) (as_property o x ss u)
   put_property x ss cs as_written None q nothing_put u w = w refl
   put_property x ss cs in_itself None q m u w = elim m [ ]
   put_property x ss cs (stands _ _) None q m u w = elim m [ ]
-  put_property x ss cs s (Some z) q m u w = property_given x ss cs s z q m
+  put_property x ss cs s (Some z) q m u w = property_given x ss cs s z (key_is x.text ss) q m
 
   -- `typeof` of a name for which something stands
   type_given : (x : Name) (ss : List Span) (cs : Forest) (s : Stand) (z : Tree) → is_bare_operand z ≡ false → for_read a os (node (Read x) os ε) ≡ s → PutFor a mark os s (Some z) → Q (owned os (node (TypeOfName x) ss cs)) (walk.of_type ss z)

@@ -3,7 +3,7 @@
 use Rattle.std.specs.Prelude.{List, [], ◌∷◌, Option, Some, None}
 use Rattle.swc_ast.specs.declared.Span.{Span}
 use Rattle.swc_ast.specs.declared.UnaryOp.TheVariants.{TypeOf, Delete}
-use Rattle.swc_ast.specs.Tree.{Name, NameKey, Label, Read, KeyValue, Shorthand, PlainKey, TypeOfName, Unary, Dot, Index, Call, CallEval, CallDot, CallIndex, Import, Tree, node, Forest, ε, ◌⊳◌}
+use Rattle.swc_ast.specs.Tree.{Name, Label, Read, Shorthand, TypeOfName, Unary, Dot, Index, Call, CallEval, CallDot, CallIndex, Import, Tree, node, Forest, ε, ◌⊳◌}
 use Rattle.tree_put.specs.Put as walk
 use Rattle.tree_put.specs.declared.rules.Spot.{Spot}
 use Rattle.tree_put.specs.declared.rules.Spot.TheVariants as spot
@@ -46,7 +46,7 @@ of_type (Some v) ss t = walk.of_type ss v
 
 abbrev pub as_property : Option Tree → Name → List Span → Tree → Tree
 as_property None x ss t = t
-as_property (Some v) x ss t = node KeyValue [] (node (PlainKey (NameKey x.text)) ss ε ⊳ v ⊳ ε)
+as_property (Some v) x ss t = walk.as_property x ss v
 
 -- where the first child of a node stands; all others stand elsewhere
 abbrev pub first_spot : Label → Spot

@@ -2,7 +2,7 @@
 use Rattle.std.proofs.Common.{◌≡◌, ℕ, Bool, true, false, List, [], ◌∷◌, Option, Some, None, refl, sym, ap, subst, ◌∙◌}
 use Rattle.swc_ast.specs.declared.Span.{Span}
 use Rattle.swc_ast.specs.declared.UnaryOp.TheVariants.{TypeOf}
-use Rattle.swc_ast.specs.Tree.{Name, Label, Unary, Read, TypeOfName, Shorthand, KeyValue, PlainKey, NameKey, Tree, node, Forest, ε, ◌⊳◌, label_of, spans_of}
+use Rattle.swc_ast.specs.Tree.{Text, Name, Label, Unary, Read, TypeOfName, Shorthand, KeyValue, Tree, node, Forest, ε, ◌⊳◌, label_of, spans_of}
 use Rattle.swc_ast.specs.Value.{Value, State, Outcome, Done, Outside, Run, and_then, Context, Meaning}
 use Rattle.swc_ast.specs.Operators.{unary_value}
 use Rattle.swc_ast.specs.Meaning.{◌>>=◌, gives, in_core, act, read, read_bound, held_value, cell_at, type_of_name, one_field, is_unresolved, Caller}
@@ -14,6 +14,7 @@ use Rattle.meaning_proofs.specs.Sameness.{ignoring, SameIn}
 use Rattle.meaning_proofs.specs.Roles.{Unfolds}
 use Rattle.meaning_proofs.specs.Rewrites.{Related}
 use Rattle.link_proofs.specs.Links.{Links, Ground, settled_here, Proper, Put, nothing, a_name, a_value, PutTree, put_number, put_text, put_truth, put_null, put_void, reads, ReadsNone, put_at, through, linked_act, linked_eval, linked_evals, GoodWhole}
+use Rattle.tree_put.specs.Keys.{IsKey, plain_key, text_key}
 use Rattle.meaning_proofs.proofs.Laws.{trimmed_itself}
 use Rattle.meaning_proofs.proofs.Endings.{as_counted}
 use Rattle.meaning_proofs.proofs.Runs.{same_in}
@@ -122,9 +123,15 @@ module _ (L : Links) (mark : ℕ) where
   unfolding linked_eval linked_evals linked_act act and_then
   type_gives n call rs p c s = ap (λ (o : Outcome Value). and_then o (λ v. in_core (unary_value TypeOf v))) (put_gives n call p c s)
 
-  short_gives : (n : ℕ) (call : Caller) (y : Name) {t : Tree} {u : Value} (rs us : List Span) → PutTree u t → (c : Context) (s : State) → linked_eval L mark n call (node KeyValue rs (node (PlainKey (NameKey y.text)) us ε ⊳ t ⊳ ε)) c s ≡ one_field y.text u s
+  -- a property with such a key has its value for the text
+  keyed_is : (n : ℕ) (call : Caller) {x : Text} {k : Tree} (t : Tree) (rs : List Span) → IsKey x k → (c : Context) (s : State) → linked_eval L mark n call (node KeyValue rs (k ⊳ t ⊳ ε)) c s ≡ and_then (linked_eval L mark n call t c s) (λ v. one_field x v)
   unfolding linked_eval linked_evals linked_act act and_then
-  short_gives n call y rs us p c s = ap (λ (o : Outcome Value). and_then o (λ v. one_field y.text v)) (put_gives n call p c s)
+  keyed_is n call t rs plain_key c s = refl
+  keyed_is n call t rs text_key c s = refl
+
+  short_gives : (n : ℕ) (call : Caller) (y : Name) {k t : Tree} {u : Value} (rs : List Span) → PutTree u t → IsKey y.text k → (c : Context) (s : State) → linked_eval L mark n call (node KeyValue rs (k ⊳ t ⊳ ε)) c s ≡ one_field y.text u s
+  unfolding and_then
+  short_gives n call y {t = t} rs p j c s = keyed_is n call t rs j c s ∙ ap (λ (o : Outcome Value). and_then o (λ v. one_field y.text v)) (put_gives n call p c s)
 
   linked_read_is : (n : ℕ) (call : Caller) (y x : Name) (ss : List Span) → put_at L y ss ≡ a_name x → linked_eval L mark n call (node (Read y) ss ε) ≡ (λ c. read mark y c >>= λ v. read mark x c)
   unfolding linked_eval linked_evals linked_act
@@ -146,9 +153,8 @@ module _ (L : Links) (mark : ℕ) where
   unfolding linked_eval linked_evals linked_act
   linked_short_is n call y x ss l = through_some mark y x (put_at L y ss) _ _ _ l
 
-  short_is : (n : ℕ) (call : Caller) (y x : Name) (rs us vs : List Span) → Ends L x → linked_eval L mark n call (node KeyValue rs (node (PlainKey (NameKey y.text)) us ε ⊳ node (Read x) vs ε ⊳ ε)) ≡ (λ c. read mark x c >>= λ u. one_field y.text u)
-  unfolding linked_eval linked_evals linked_act act and_then
-  short_is n call y x rs us vs l = ap {B = Meaning} (λ (m : Meaning) (c : Context). m c >>= λ u. one_field y.text u) (through_none mark x (put_at L x vs) (read mark x) (λ z. read mark z) (λ v. gives v) (puts_none L x vs l.unlinked l.unknown l.unsettled))
+  short_is : (n : ℕ) (call : Caller) (y x : Name) {k : Tree} (rs vs : List Span) → Ends L x → IsKey y.text k → (c : Context) (s : State) → linked_eval L mark n call (node KeyValue rs (k ⊳ node (Read x) vs ε ⊳ ε)) c s ≡ and_then (read mark x c s) (λ u. one_field y.text u)
+  short_is n call y x rs vs l j c s = keyed_is n call (node (Read x) vs ε) rs j c s ∙ ap (λ (m : Meaning). and_then (m c s) (λ u. one_field y.text u)) (plain_read_is n call x vs l)
 
 module _ {L : Links} {mark : ℕ} (P : Proper L mark) {N : Names} where
   -- the same, where what goes on begins in the state behind the read
@@ -176,11 +182,11 @@ module _ {L : Links} {mark : ℕ} (P : Proper L mark) {N : Names} where
         (subst (λ (m : Meaning). Trimmed N ((read mark y c >>= λ v. type_of_name mark x c) s) (m c s)) (sym (plain_type_is L mark n _ x rs (target P y ss x l).ends)) (read_step y c s (target P y ss x l).bound (type_of_name mark x c)));
   }
 
-  pub link_shorthand_trims : (y x : Name) (ss rs us vs : List Span) → put_at L y ss ≡ a_name x → Trims N (linked_eval L mark) (node (Shorthand y) ss ε) (node KeyValue rs (node (PlainKey (NameKey y.text)) us ε ⊳ node (Read x) vs ε ⊳ ε))
-  link_shorthand_trims y x ss rs us vs l = record {
+  pub link_shorthand_trims : (y x : Name) {k : Tree} (ss rs vs : List Span) → put_at L y ss ≡ a_name x → IsKey y.text k → Trims N (linked_eval L mark) (node (Shorthand y) ss ε) (node KeyValue rs (k ⊳ node (Read x) vs ε ⊳ ε))
+  link_shorthand_trims y x {k} ss rs vs l j = record {
     by = λ n d c s g.
-        subst (λ (m : Meaning). Trimmed N (m c s) (run_at (linked_eval L mark) n d (node KeyValue rs (node (PlainKey (NameKey y.text)) us ε ⊳ node (Read x) vs ε ⊳ ε)) c s)) (sym (linked_short_is L mark n _ y x ss l))
-        (subst (λ (m : Meaning). Trimmed N ((read mark y c >>= λ v. (read mark x c >>= λ u. one_field y.text u)) s) (m c s)) (sym (short_is L mark n _ y x rs us vs (target P y ss x l).ends)) (read_step y c s (target P y ss x l).bound (λ s. and_then (read mark x c s) (λ u. one_field y.text u))));
+        subst (λ (m : Meaning). Trimmed N (m c s) (run_at (linked_eval L mark) n d (node KeyValue rs (k ⊳ node (Read x) vs ε ⊳ ε)) c s)) (sym (linked_short_is L mark n _ y x ss l))
+        (subst (λ (o : Outcome Value). Trimmed N ((read mark y c >>= λ v. (read mark x c >>= λ u. one_field y.text u)) s) o) (sym (short_is L mark n _ y x rs vs (target P y ss x l).ends j c s)) (read_step y c s (target P y ss x l).bound (λ s. and_then (read mark x c s) (λ u. one_field y.text u))));
   }
 
   -- `y` to the value that it is known to hold
@@ -198,11 +204,11 @@ module _ {L : Links} {mark : ℕ} (P : Proper L mark) {N : Names} where
         (subst (λ (o : Outcome Value). Trimmed N ((read mark y c >>= λ v. in_core (unary_value TypeOf u)) s) o) (sym (type_gives L mark n _ rs i c s)) (read_step y c s (value_bound P y ss u e) (in_core (unary_value TypeOf u))));
   }
 
-  pub value_shorthand_trims : (y : Name) {u : Value} {t : Tree} (ss rs us : List Span) → put_at L y ss ≡ a_value u → PutTree u t → Trims N (linked_eval L mark) (node (Shorthand y) ss ε) (node KeyValue rs (node (PlainKey (NameKey y.text)) us ε ⊳ t ⊳ ε))
-  value_shorthand_trims y {u} {t} ss rs us e i = record {
+  pub value_shorthand_trims : (y : Name) {u : Value} {k t : Tree} (ss rs : List Span) → put_at L y ss ≡ a_value u → PutTree u t → IsKey y.text k → Trims N (linked_eval L mark) (node (Shorthand y) ss ε) (node KeyValue rs (k ⊳ t ⊳ ε))
+  value_shorthand_trims y {u} {k} {t} ss rs e i j = record {
     by = λ n d c s g.
-        subst (λ (m : Meaning). Trimmed N (m c s) (run_at (linked_eval L mark) n d (node KeyValue rs (node (PlainKey (NameKey y.text)) us ε ⊳ t ⊳ ε)) c s)) (sym (value_short_is L mark n _ y u ss e))
-        (subst (λ (o : Outcome Value). Trimmed N ((read mark y c >>= λ v. one_field y.text u) s) o) (sym (short_gives L mark n _ y rs us i c s)) (read_step y c s (value_bound P y ss u e) (one_field y.text u)));
+        subst (λ (m : Meaning). Trimmed N (m c s) (run_at (linked_eval L mark) n d (node KeyValue rs (k ⊳ t ⊳ ε)) c s)) (sym (value_short_is L mark n _ y u ss e))
+        (subst (λ (o : Outcome Value). Trimmed N ((read mark y c >>= λ v. one_field y.text u) s) o) (sym (short_gives L mark n _ y rs i j c s)) (read_step y c s (value_bound P y ss u e) (one_field y.text u)));
   }
 
 module _ {L : Links} {mark : ℕ} (P : Proper L mark) {N : Names} where

@@ -2,7 +2,7 @@
 use Rattle.std.proofs.Common.{◌≡◌, ℕ, Bool, true, false, ◌++◌, List, [], refl, sym, ap, ap₂, ◌∙◌}
 use Rattle.std.proofs.lemmas.Bool.{false≢true}
 use Rattle.swc_ast.specs.declared.Span.{Span}
-use Rattle.swc_ast.specs.Tree.{Name, Label, NumLit, StrLit, BoolLit, NullLit, Unary, Read, TypeOfName, Shorthand, KeyValue, PlainKey, NameKey, Block, Body, CaseBody, VarDecl, FnDecl, Import, ExportDecl, ExportNamed, Module, Script, Tree, node, Forest, ε, ◌⊳◌, label_of}
+use Rattle.swc_ast.specs.Tree.{Text, Name, Label, NumLit, StrLit, BoolLit, NullLit, Unary, Read, TypeOfName, Shorthand, KeyValue, PlainKey, ComputedKey, NameKey, Block, Body, CaseBody, VarDecl, FnDecl, Import, ExportDecl, ExportNamed, Module, Script, Tree, node, Forest, ε, ◌⊳◌, label_of}
 use Rattle.swc_ast.specs.declared.UnaryOp.TheVariants.{TypeOf, Void}
 use Rattle.swc_ast.specs.Value.{Value}
 use Rattle.swc_ast.specs.Scope.{declarator_name, declarator_names}
@@ -13,6 +13,7 @@ use Rattle.meaning_proofs.specs.Roles.{Fits, Clean}
 use Rattle.meaning_proofs.specs.Rewrites.{SameExports, Specifiers, no_more, keep, Kept, kept, kept_list, kept_declarators, kept_import, Rewrites, All, nil, cons, Related, modules, scripts}
 use Rattle.meaning_proofs.specs.Walks.{no_names}
 use Rattle.link_proofs.specs.Links.{Links, Proper, reads, ReadsNone, linked_eval, GoodWhole, Reexports, Puts, puts_read, puts_type, puts_shorthand, puts_value, puts_value_type, puts_value_shorthand, PutTree, put_number, put_text, put_truth, put_null, put_void, puts_node, puts_import, PutsAll, puts_end, puts_more}
+use Rattle.tree_put.specs.Keys.{IsKey, plain_key, text_key}
 use Rattle.meaning_proofs.proofs.Laws.{only_kept, only_listed, first, list_trims_itself, same_lists_itself, list_exact_itself}
 use Rattle.meaning_proofs.proofs.Making.{firm_scoped, firm_slack}
 use Rattle.meaning_proofs.proofs.Quiet.{fits_nothing}
@@ -31,10 +32,10 @@ module _ {A : Type 0} (f : Label → List A) (r : (x : Name) → f (Read x) ≡ 
   same_at : {L : Links} {t u : Tree} → Puts L t u → f (label_of t) ≡ f (label_of u)
   same_at (puts_read y x e) = r y ∙ sym (r x)
   same_at (puts_type y x e) = t y ∙ sym (t x)
-  same_at (puts_shorthand y x e) = s y ∙ sym k
+  same_at (puts_shorthand y x e i) = s y ∙ sym k
   same_at (puts_value y e i) = r y ∙ sym (v _ _ i)
   same_at (puts_value_type y e i) = t y ∙ sym a
-  same_at (puts_value_shorthand y e i) = s y ∙ sym k
+  same_at (puts_value_shorthand y e i j) = s y ∙ sym k
   same_at (puts_node l i e h) = refl
   same_at (puts_import src) = refl
 
@@ -97,9 +98,9 @@ module _ {L : Links} where
   exported_as (puts_more (puts_value y e put_null) hs) = refl
   exported_as (puts_more (puts_value y e (put_void z)) hs) = refl
   exported_as (puts_more (puts_value_type y e i) hs) = refl
-  exported_as (puts_more (puts_value_shorthand y e i) hs) = refl
+  exported_as (puts_more (puts_value_shorthand y e i k) hs) = refl
   exported_as (puts_more (puts_type y x e) hs) = refl
-  exported_as (puts_more (puts_shorthand y x e) hs) = refl
+  exported_as (puts_more (puts_shorthand y x e i) hs) = refl
 
   same_exports : (l : Label) {cs us : Forest} → PutsAll L cs us → SameExports l cs us
   same_exports ExportDecl h = exported_as h
@@ -142,8 +143,15 @@ module _ {L : Links} {mark : ℕ} (P : Proper L mark) where
       let k : Rewrites no_names mark (linked_eval L mark) (node (NumLit z) us ε) (node (NumLit z) us ε) = only_kept (kept_node (NumLit z) us us refl tt puts_end nil nil) in
       only_kept (kept_node (Unary Void) rs rs refl tt (puts_more (puts_node (NumLit z) refl tt puts_end) puts_end) (cons k nil) (cons k nil))
 
-  key_kept : (y : Name) (us : List Span) → Rewrites no_names mark (linked_eval L mark) (node (PlainKey (NameKey y.text)) us ε) (node (PlainKey (NameKey y.text)) us ε)
-  key_kept y us = only_kept (kept_node (PlainKey (NameKey y.text)) us us refl tt puts_end nil nil)
+  key_puts : {k : Text} {t : Tree} → IsKey k t → Puts L t t
+  key_puts {k} plain_key = puts_node (PlainKey (NameKey k)) refl tt puts_end
+  key_puts {k} text_key = puts_node ComputedKey refl tt (puts_more (puts_node (StrLit k) refl tt puts_end) puts_end)
+
+  key_kept : {k : Text} {t : Tree} → IsKey k t → Rewrites no_names mark (linked_eval L mark) t t
+  key_kept {k} (plain_key {ss}) = only_kept (kept_node (PlainKey (NameKey k)) ss ss refl tt puts_end nil nil)
+  key_kept {k} (text_key {ss} {rs}) =
+      let h : Rewrites no_names mark (linked_eval L mark) (node (StrLit k) rs ε) (node (StrLit k) rs ε) = only_kept (kept_node (StrLit k) rs rs refl tt puts_end nil nil) in
+      only_kept (kept_node ComputedKey ss ss refl tt (puts_more (puts_node (StrLit k) refl tt puts_end) puts_end) (cons h nil) (cons h nil))
 
   read_kept : (x : Name) (ss rs : List Span) → Ends L x → Rewrites no_names mark (linked_eval L mark) (node (Read x) ss ε) (node (Read x) rs ε)
   read_kept x ss rs e = only_kept (kept_node (Read x) ss rs refl (puts_none L x ss e.unlinked e.unknown e.unsettled) puts_end nil nil)
@@ -154,16 +162,16 @@ module _ {L : Links} {mark : ℕ} (P : Proper L mark) where
     puts_rewrites (puts_value y {ss = ss} e i) = first (value_trims P y ss e i) (value_fits y ss i) (value_kept i)
     puts_rewrites (puts_value_type y {t = t} {ss} {rs} e i) =
         first (value_type_trims P y ss rs e i) (fits_nothing (node (TypeOfName y) ss ε) (node (Unary TypeOf) rs (t ⊳ ε)) refl refl) (only_kept (kept_node (Unary TypeOf) rs rs refl tt (puts_more (value_puts i) puts_end) (cons (value_kept i) nil) (cons (value_kept i) nil)))
-    puts_rewrites (puts_value_shorthand y {t = t} {ss} {rs} {us} e i) =
-        first (value_shorthand_trims P y ss rs us e i) (fits_nothing (node (Shorthand y) ss ε) (node KeyValue rs (node (PlainKey (NameKey y.text)) us ε ⊳ t ⊳ ε)) refl refl)
-        (only_kept (kept_node KeyValue rs rs refl tt (puts_more (puts_node (PlainKey (NameKey y.text)) {ss = us} {rs = us} refl tt puts_end) (puts_more (value_puts i) puts_end)) (cons (key_kept y us) (cons (value_kept i) nil)) (cons (key_kept y us) (cons (value_kept i) nil))))
+    puts_rewrites (puts_value_shorthand y {k = k} {t = t} {ss} {rs} e i j) =
+        first (value_shorthand_trims P y ss rs e i j) (fits_nothing (node (Shorthand y) ss ε) (node KeyValue rs (k ⊳ t ⊳ ε)) refl refl)
+        (only_kept (kept_node KeyValue rs rs refl tt (puts_more (key_puts j) (puts_more (value_puts i) puts_end)) (cons (key_kept j) (cons (value_kept i) nil)) (cons (key_kept j) (cons (value_kept i) nil))))
     puts_rewrites (puts_type y x {ss} {rs} e) =
         first (link_type_trims P y x ss rs e) (fits_nothing (node (TypeOfName y) ss ε) (node (TypeOfName x) rs ε) refl refl) (only_kept (kept_node (TypeOfName x) rs rs refl (puts_none L x rs (target P y ss x e).ends.unlinked (target P y ss x e).ends.unknown (target P y ss x e).ends.unsettled) puts_end nil nil))
-    puts_rewrites (puts_shorthand y x {ss} {rs} {us} {vs} e) =
+    puts_rewrites (puts_shorthand y x {k} {ss} {rs} {vs} e j) =
         let n = (target P y ss x e).ends in
-        first (link_shorthand_trims P y x ss rs us vs e) (fits_nothing (node (Shorthand y) ss ε) (node KeyValue rs (node (PlainKey (NameKey y.text)) us ε ⊳ node (Read x) vs ε ⊳ ε)) refl refl)
-        (only_kept (kept_node KeyValue rs rs refl tt (puts_more (puts_node (PlainKey (NameKey y.text)) {ss = us} {rs = us} refl tt puts_end) (puts_more (puts_node (Read x) {ss = vs} {rs = vs} refl (puts_none L x vs n.unlinked n.unknown n.unsettled) puts_end) puts_end))
-        (cons (key_kept y us) (cons (read_kept x vs vs n) nil)) (cons (key_kept y us) (cons (read_kept x vs vs n) nil))))
+        first (link_shorthand_trims P y x ss rs vs e j) (fits_nothing (node (Shorthand y) ss ε) (node KeyValue rs (k ⊳ node (Read x) vs ε ⊳ ε)) refl refl)
+        (only_kept (kept_node KeyValue rs rs refl tt (puts_more (key_puts j) (puts_more (puts_node (Read x) {ss = vs} {rs = vs} refl (puts_none L x vs n.unlinked n.unknown n.unsettled) puts_end) puts_end))
+        (cons (key_kept j) (cons (read_kept x vs vs n) nil)) (cons (key_kept j) (cons (read_kept x vs vs n) nil))))
     puts_rewrites (puts_node l {ss} {rs} i q h) = only_kept (kept_node l ss rs i q h (puts_all h) (puts_all h))
     puts_rewrites (puts_import src {ss} {rs} {cs}) = only_kept (kept_import src (linked_unfolds L mark (node (Import src) ss cs) tt) (all_keep cs))
 
@@ -194,9 +202,9 @@ module _ {L : Links} {mark : ℕ} (P : Proper L mark) where
   puts_same loads g (puts_value y e put_null) = elim g [ ]
   puts_same loads g (puts_value y e (put_void z)) = elim g [ ]
   puts_same loads g (puts_value_type y e i) = elim g [ ]
-  puts_same loads g (puts_value_shorthand y e i) = elim g [ ]
+  puts_same loads g (puts_value_shorthand y e i k) = elim g [ ]
   puts_same loads g (puts_type y x e) = elim g [ ]
-  puts_same loads g (puts_shorthand y x e) = elim g [ ]
+  puts_same loads g (puts_shorthand y x e i) = elim g [ ]
 
   -- The same of a module in which exports name what names stand for.
   pub reexported_same : (loads : Bool) (ss rs : List Span) {ts us vs : Forest} → GoodWhole L (node Module ss ts) → Reexports L ts us → PutsAll L us vs → Same mark loads (node Module ss ts) (node Module rs vs)

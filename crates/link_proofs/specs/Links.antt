@@ -4,7 +4,7 @@ use Rattle.std.specs.Prelude.{ℕ, ℤ, ◌≡◌, Bool, true, false, not, ◌&&
 use Rattle.swc_ast.specs.declared.Span.{Span}
 use Rattle.swc_ast.specs.declared.VarDeclKind.{VarDeclKind}
 use Rattle.swc_ast.specs.declared.VarDeclKind.TheVariants.{Var}
-use Rattle.swc_ast.specs.Tree.{Name, same_name, Text, NameKey, Label, NumLit, StrLit, BoolLit, NullLit, Read, KeyValue, Shorthand, Method, PlainKey, Fn, Arrow, Params, Body, Param, Module, Script, Unary, TypeOfName, Assign, Update, Block, For, Switch, CaseBody, Try, VarDecl, Declarator, FnDecl, ExportDecl, ExportDefaultExpr, Import, ExportNamed, ExportSpecifier, ExportDefaultFn, Tree, node, Forest, ε, ◌⊳◌}
+use Rattle.swc_ast.specs.Tree.{Name, same_name, Text, Label, NumLit, StrLit, BoolLit, NullLit, Read, KeyValue, Shorthand, Method, Fn, Arrow, Params, Body, Param, Module, Script, Unary, TypeOfName, Assign, Update, Block, For, Switch, CaseBody, Try, VarDecl, Declarator, FnDecl, ExportDecl, ExportDefaultExpr, Import, ExportNamed, ExportSpecifier, ExportDefaultFn, Tree, node, Forest, ε, ◌⊳◌}
 use Rattle.swc_ast.specs.declared.UnaryOp.TheVariants.{TypeOf, Void}
 use Rattle.swc_ast.specs.Operators.{unary_value}
 use Rattle.swc_ast.specs.Value.{Value, Undefined, Null, Truth, Num, Text as TextValue, Run, Meaning}
@@ -13,6 +13,7 @@ use Rattle.swc_ast.specs.Meaning.{◌>>=◌, gives, in_core, is_unresolved, read
 use Rattle.swc_ast.specs.Call.{body_binds, statements_of}
 use Rattle.swc_ast.specs.Run.{source_of, export_text}
 use Rattle.meaning_proofs.specs.Roles.{holds_function}
+use Rattle.tree_put.specs.Keys.{IsKey}
 
 -- what is put for a name: nothing, a name, or a value
 pub data Put : Type 0 where
@@ -389,10 +390,10 @@ mutual
   pub data Puts (L : Links) : Tree → Tree → Type 0 where
     puts_read : (y x : Name) {ss rs : List Span} → put_at L y ss ≡ a_name x → Puts L (node (Read y) ss ε) (node (Read x) rs ε)
     puts_type : (y x : Name) {ss rs : List Span} → put_at L y ss ≡ a_name x → Puts L (node (TypeOfName y) ss ε) (node (TypeOfName x) rs ε)
-    puts_shorthand : (y x : Name) {ss rs us vs : List Span} → put_at L y ss ≡ a_name x → Puts L (node (Shorthand y) ss ε) (node KeyValue rs (node (PlainKey (NameKey y.text)) us ε ⊳ node (Read x) vs ε ⊳ ε))
+    puts_shorthand : (y x : Name) {k : Tree} {ss rs vs : List Span} → put_at L y ss ≡ a_name x → IsKey y.text k → Puts L (node (Shorthand y) ss ε) (node KeyValue rs (k ⊳ node (Read x) vs ε ⊳ ε))
     puts_value : (y : Name) {v : Value} {t : Tree} {ss : List Span} → put_at L y ss ≡ a_value v → PutTree v t → Puts L (node (Read y) ss ε) t
     puts_value_type : (y : Name) {v : Value} {t : Tree} {ss rs : List Span} → put_at L y ss ≡ a_value v → PutTree v t → Puts L (node (TypeOfName y) ss ε) (node (Unary TypeOf) rs (t ⊳ ε))
-    puts_value_shorthand : (y : Name) {v : Value} {t : Tree} {ss rs us : List Span} → put_at L y ss ≡ a_value v → PutTree v t → Puts L (node (Shorthand y) ss ε) (node KeyValue rs (node (PlainKey (NameKey y.text)) us ε ⊳ t ⊳ ε))
+    puts_value_shorthand : (y : Name) {v : Value} {k t : Tree} {ss rs : List Span} → put_at L y ss ≡ a_value v → PutTree v t → IsKey y.text k → Puts L (node (Shorthand y) ss ε) (node KeyValue rs (k ⊳ t ⊳ ε))
     puts_node : (l : Label) {ss rs : List Span} {cs us : Forest} → source_of l ≡ [] → ReadsNone L (reads l) ss → PutsAll L cs us → Puts L (node l ss cs) (node l rs us)
     puts_import : (src : Text) {ss rs : List Span} {cs : Forest} → Puts L (node (Import src) ss cs) (node (Import src) rs cs)
 

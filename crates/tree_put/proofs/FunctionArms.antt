@@ -5,7 +5,7 @@ use Rattle.std.specs.declared.alloc.Global.{Global}
 use Rattle.std.specs.declared.boxed.Box.{Box}
 use Rattle.std.specs.declared.vec.Vec.{Vec}
 use Rattle.swc_ast.specs.Tree as tree
-use Rattle.swc_ast.specs.Tree.{Tree, node, ε, ◌⊳◌, NameKey}
+use Rattle.swc_ast.specs.Tree.{Tree, node, ε, ◌⊳◌}
 use Rattle.swc_ast.specs.Parts.{ident_tree, ident_name}
 use Rattle.swc_ast.specs.Expressions.{FunctionTrees, function_parts, key_tree, key_value_tree, shorthand_tree, param_tree, params_tree, method_node, arrow_node, body_tree}
 use Rattle.swc_ast.specs.Views.{expr_tree, stmt_tree, prop_or_spread_tree, prop_tree, method_tree, function_trees, arrow_body_tree}
@@ -33,6 +33,7 @@ use Rattle.swc_ast.specs.declared.statements.BlockStmt.{BlockStmt}
 use Rattle.swc_ast.specs.declared.statements.Stmt.{Stmt}
 use Rattle.swc_ast.proofs.Equations.{prop_or_spread_tree-Spread, prop_or_spread_tree-Prop, prop_tree-Shorthand, prop_tree-KeyValue, prop_tree-Method, arrow_body_tree-BlockStmt, arrow_body_tree-Expr, method_tree-is, method_tree-roll}
 use Rattle.tree_put.specs.Put.{steps, around, scoped, under, in_front, expanded, as_property}
+use Rattle.tree_put.specs.Keys.{property_key}
 use Rattle.tree_put.specs.Puts.{Puts, enter, stay, become}
 use Rattle.tree_put.specs.Scopes.{function_forest}
 use Rattle.tree_put.specs.Walks.{Makes, MakesParts, EachGoes, Goes, FunctionGoes, ShorthandGoes}
@@ -121,7 +122,7 @@ pub shorthand_becomes : {S : Type 0} {X : Puts S} {s t : S} {v : Tree} (n : Iden
 unfolding around
 shorthand_becomes {S} {X} {s} {t} {v} n h = record { is = passed X (shorthand_tree n) s spot.Here refl ∙ ap (λ a. expanded a (ident_name n) (n.span ∷ []) (shorthand_tree n)) h }
 
-pub shorthand_becomes_at : {S : Type 0} {X : Puts S} {s t : S} {v : Expr} (n : Ident) (m : KeyValueProp Expr) → X.expression s spot.Property (ident_tree n) ≡ (become (expr_tree v), t) → key_tree expr_tree m.key ≡ node (tree.PlainKey (NameKey (ident_name n).text)) (n.span ∷ []) ε → m.value.value ≡ v → Makes X (shorthand_tree n) s spot.Here (prop_tree (in_prop.KeyValue m)) t
+pub shorthand_becomes_at : {S : Type 0} {X : Puts S} {s t : S} {v : Expr} (n : Ident) (m : KeyValueProp Expr) → X.expression s spot.Property (ident_tree n) ≡ (become (expr_tree v), t) → key_tree expr_tree m.key ≡ property_key (ident_name n).text (n.span ∷ []) → m.value.value ≡ v → Makes X (shorthand_tree n) s spot.Here (prop_tree (in_prop.KeyValue m)) t
 shorthand_becomes_at {S} {X} {s} {t} {v} n m h k e = put_at refl (prop_tree-KeyValue m ∙ ap (λ z. node tree.KeyValue [] (z ⊳ expr_tree m.value.value ⊳ ε)) k ∙ ap (λ z. as_property (ident_name n) (n.span ∷ []) (expr_tree z)) e) (shorthand_becomes n h)
 
 -- a property that is only a name, and what it becomes

@@ -1,10 +1,11 @@
 -- What the walk makes of a tree: it goes through it in the order of the text.
 use Rattle.std.specs.Prelude.{if◌then◌else◌, List, [], ◌∷◌, Some}
 use Rattle.swc_ast.specs.Labels.{is_expression}
-use Rattle.swc_ast.specs.Tree.{Name, NameKey, Label, Read, KeyValue, Shorthand, PlainKey, Method, Fn, Arrow, FnDecl, TypeOfName, Unary, Dot, Index, Call, CallEval, CallDot, CallIndex, Block, Body, CaseBody, For, Switch, Try, Declarator, Module, Script, Import, ExportSpecifier, ExportDefaultFn, Tree, node, Forest, ε, ◌⊳◌}
+use Rattle.swc_ast.specs.Tree.{Name, Label, Read, KeyValue, Shorthand, Method, Fn, Arrow, FnDecl, TypeOfName, Unary, Dot, Index, Call, CallEval, CallDot, CallIndex, Block, Body, CaseBody, For, Switch, Try, Declarator, Module, Script, Import, ExportSpecifier, ExportDefaultFn, Tree, node, Forest, ε, ◌⊳◌}
 use Rattle.swc_ast.specs.declared.Span.{Span}
 use Rattle.swc_ast.specs.declared.UnaryOp.TheVariants as op
 use Rattle.swc_ast.specs.Expressions.{call_node, unary_node}
+use Rattle.tree_put.specs.Keys.{property_key}
 use Rattle.tree_put.specs.declared.rules.Spot.{Spot}
 use Rattle.tree_put.specs.declared.rules.Spot.TheVariants as spot
 use Rattle.tree_put.specs.Puts.{Answer, enter, stay, become, Puts}
@@ -26,7 +27,7 @@ of_type (s ∷ ss) t = unary_node op.TypeOf s t
 
 -- a property that was only a name
 abbrev pub as_property : Name → List Span → Tree → Tree
-as_property x ss v = node KeyValue [] (node (PlainKey (NameKey x.text)) ss ε ⊳ v ⊳ ε)
+as_property x ss v = node KeyValue [] (property_key x.text ss ⊳ v ⊳ ε)
 
 -- what an answer makes of a tree, whose parts were walked too, and what is carried behind it
 abbrev pub chosen : {S : Type 0} → Answer × S → Tree → Tree × S → Tree × S

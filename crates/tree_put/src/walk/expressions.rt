@@ -1,8 +1,9 @@
 //! The walk over expressions and functions.
-ghost use Rattle.std.specs.Prelude.{◌≡◌, IfOk};
+ghost use Rattle.std.specs.Prelude.{◌≡◌, [], ◌∷◌, IfOk};
 ghost use Rattle.swc_ast.specs.Expressions.{assign_tree, member_tree, key_tree, param_tree, unary_tree, update_tree, key_value_tree};
 ghost use Rattle.swc_ast.specs.Views.{expr_tree, prop_or_spread_tree, prop_tree, method_tree, function_trees, arrow_tree, arrow_body_tree};
 ghost use Rattle.swc_ast.specs.declared.expressions.AssignTarget.TheVariants.{Member};
+ghost use Rattle.tree_put.specs.Keys as keys;
 ghost use Rattle.tree_put.specs.Walks.{Makes, MakesParts, Each, Goes, EachGoes, OptionGoes, ItemGoes, PropGoes, TargetGoes, FunctionGoes, ShorthandGoes, spot_of};
 
 use crate::rules::{Put, Puts, Scope, Spot};
@@ -10,9 +11,9 @@ use crate::walk::statements::put_body;
 use std::alloc::{AllocError, Global};
 use std::mem;
 use swc_ast::{
-    ArrowExpr, AssignExpr, AssignTarget, Atom, BlockStmtOrExpr, Expr, ExprOrSpread, Function,
-    Ident, IdentName, KeyValueProp, MemberExpr, MemberProp, MethodProp, Pat, Prop, PropName,
-    PropOrSpread, UnaryExpr, UnaryOp, UpdateExpr,
+    ArrowExpr, AssignExpr, AssignTarget, Atom, BlockStmtOrExpr, ComputedPropName, Expr,
+    ExprOrSpread, Function, Ident, IdentName, KeyValueProp, Lit, MemberExpr, MemberProp,
+    MethodProp, Pat, Prop, PropName, PropOrSpread, Span, Str, UnaryExpr, UnaryOp, UpdateExpr,
 };
 
 /// Walks an expression: what takes its place, or its parts.
@@ -386,11 +387,31 @@ fn put_shorthand<P: Puts>(
         Put::Stay => Ok(None),
         Put::Become(value) => {
             let sym = mem::replace(&mut n.sym, Atom::new());
-            let key = PropName::Ident(IdentName { span: n.span, sym });
+            let key = property_key(alloc, n.span, sym)?;
             let value = Box::new(alloc, value)?;
             Ok(Some(Prop::KeyValue(KeyValueProp { key, value })))
         }
     }
+}
+
+/// Whether a plain key of this text sets the prototype.
+fn is_proto(name: &Atom) -> bool
+    ensures { result ≡ keys.is_proto name.now }
+{
+    name.as_str() == "__proto__"
+}
+
+/// The key of a property that was only a name: `['__proto__']` for the name `__proto__`, since `__proto__: value` would set
+/// the prototype.
+fn property_key(alloc: Global, span: Span, sym: Atom) -> Result<PropName, AllocError>
+    ensures { IfOk result (λ k. key_tree expr_tree k ≡ keys.property_key sym (span ∷ [])) }
+{
+    if !is_proto(&sym) {
+        return Ok(PropName::Ident(IdentName { span, sym }));
+    }
+    let value = String::from_str(alloc, sym.as_str())?;
+    let expr = Box::new(alloc, Expr::Lit(Lit::Str(Str { span, value })))?;
+    Ok(PropName::Computed(ComputedPropName { span, expr }))
 }
 
 #[inline(never)]
