@@ -1,18 +1,20 @@
-//! What is promised where no tree is, of words, of layers of items and of command lines, for edits that must fail: each function here
-//! calls the one that it is named after, under the same contract.
+//! What is promised where no tree is, of words, of outlines, of layers of items and of command lines, for edits that must fail: each
+//! function here calls the one that it is named after, under the same contract.
 #![tactic(auto)]
 
-ghost use Rattle.std.specs.Prelude.{◌≡◌, ◌≤◌, ◌<◌, IfOk, map, option_map, string_bytes};
+ghost use Rattle.std.specs.Prelude.{◌≡◌, ◌≤◌, ◌<◌, ◌^◌, length, IfOk, map, option_map, string_bytes};
 ghost use Rattle.dce_peel.specs.Rounds.{AreLayers};
 ghost use Rattle.shake_options.specs.CommandLine.{command_line, flags_in, retained_in};
 ghost use Rattle.shake_options.specs.Flags.{flag_of, flag_texts};
 ghost use Rattle.text_lexer.specs.Words.{word_part};
 ghost use Rattle.text_lexer.specs.declared.fault.Fault.TheVariants.{OutOfMemory};
+ghost use Rattle.text_outline.specs.Order.{AreUnits};
 
 use dce_peel::{Access, Item, Layering};
 use shake_options::{Flag, Options};
 use std::alloc::{AllocError, Global};
 use text_lexer::Fault;
+use text_outline::Outline;
 
 /// `text_lexer::is_word_part`
 pub fn is_word_part(byte: u8) -> bool
@@ -26,6 +28,14 @@ pub fn fault_from(error: AllocError) -> Fault
     ensures { result ≡ OutOfMemory }
 {
     Fault::from(error)
+}
+
+/// `text_outline::outline`
+pub fn outline(alloc: Global, text: &str) -> Result<Outline<'_>, Fault>
+    requires { length text.now < 2 ^ 31 }
+    ensures units { IfOk result (λ outline. AreUnits text.now outline.units.items) }
+{
+    text_outline::outline(alloc, text)
 }
 
 /// `dce_peel::layers_of`

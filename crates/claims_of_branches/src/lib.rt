@@ -3,9 +3,11 @@
 #![tactic(auto)]
 
 mod choices;
+mod lists;
 mod loops;
 mod statements;
 
 pub use choices::{fold_arms, shed_switch};
+pub use lists::tidy_items;
 pub use loops::{fold_do, fold_for, fold_while, run_within};
 pub use statements::{fold_block, fold_expression, fold_if, fold_label, fold_try};

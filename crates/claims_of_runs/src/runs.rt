@@ -35,7 +35,7 @@ pub fn run<R: Read, W: Write, E: Write>(
     ensures unread { result ≡ 2 → reader.new ≡ reader.old }
     ensures unwritten { result ≡ 2 → writer.new ≡ writer.old }
     ensures silent { result ≡ 0 → errors.new ≡ errors.old }
-    ensures done { result ≡ 0 → Done (map string_bytes args.now) }
+    ensures done { result ≡ 0 → Done (map string_bytes args.now) (R.remaining reader.old) (W.contents writer.old) (W.contents writer.new) }
 {
     shake_run::run(alloc, args, reader, writer, errors)
 }
