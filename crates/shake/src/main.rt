@@ -1,7 +1,8 @@
 //! The program `shake`: its work is that of `shake_run`, on the standard streams.
 #![tactic(auto)]
 
-use shake_run::{Fault, run, tell};
+use shake_options::Notice;
+use shake_run::{Fault, inform, run, tell};
 use std::env;
 use std::io::ErrorKind;
 use std::process::ExitCode;
@@ -18,13 +19,16 @@ fn main(rt: HostRuntime) -> ExitCode {
         Err(_) => Err(Fault::Arguments),
     };
     let status = match args {
-        Ok(args) => run(
-            rt.alloc(),
-            args.as_slice(),
-            &mut reader,
-            &mut writer,
-            &mut errors,
-        ),
+        Ok(args) => match Notice::asked(args.as_slice()) {
+            Some(notice) => inform(notice, &mut writer, &mut errors),
+            None => run(
+                rt.alloc(),
+                args.as_slice(),
+                &mut reader,
+                &mut writer,
+                &mut errors,
+            ),
+        },
         Err(fault) => tell(fault, &mut errors),
     };
     ExitCode::from(status)

@@ -7,7 +7,7 @@ use Rattle.std.specs.Option.{option_and_then, option_map}
 use Rattle.std.specs.Str.Parse.{digits_value}
 use Rattle.shake_options.specs.declared.options.Options.{Options}
 use Rattle.shake_options.specs.declared.options.PassName.{PassName}
-use Rattle.shake_options.specs.declared.options.PassName.TheVariants.{Expr, Branch, Dce, Simplify, Const, Inline, Json}
+use Rattle.shake_options.specs.declared.options.PassName.TheVariants.{Expr, Branch, Dce, Simplify, Optimize, Const, Inline, Json}
 use Rattle.shake_options.specs.Flags.{FlagText, flag_of}
 
 -- the number that decimal digits alone write, where a usize holds it
@@ -22,6 +22,7 @@ pass_named word =
     else if bytes_eq word (codes "branch") then Some Branch
     else if bytes_eq word (codes "dce") then Some Dce
     else if bytes_eq word (codes "simplify") then Some Simplify
+    else if bytes_eq word (codes "optimize") then Some Optimize
     else if bytes_eq word (codes "const") then Some Const
     else if bytes_eq word (codes "inline") then Some Inline
     else if bytes_eq word (codes "json") then Some Json
@@ -29,7 +30,7 @@ pass_named word =
 
 -- a pass with no options beside it
 abbrev pub defaults : PassName → Options
-defaults p = record { pass = p; top_level = true; preserve_imports_with_side_effects = true; max_rounds = 18446744073709551615; min_cost = 1024 }
+defaults p = record { pass = p; top_level = true; preserve_imports_with_side_effects = true; max_rounds = 18446744073709551615; min_cost = 1024; compact = false }
 
 -- an option that gives something
 abbrev pub gives : List ℕ → Bool
@@ -44,6 +45,7 @@ abbrev pub switched : List ℕ → Options → Option Options
 switched word o =
     if bytes_eq word (codes "--keep-top") then Some (record o { top_level = false })
     else if bytes_eq word (codes "--drop-imports") then Some (record o { preserve_imports_with_side_effects = false })
+    else if bytes_eq word (codes "--compact") then Some (record o { compact = true })
     else None
 
 -- the options, changed by one with an operand

@@ -14,6 +14,7 @@ pub enum PassName {
     Branch,
     Dce,
     Simplify,
+    Optimize,
     Const,
     Inline,
     Json,
@@ -29,6 +30,7 @@ impl PassName {
             "branch" => Some(PassName::Branch),
             "dce" => Some(PassName::Dce),
             "simplify" => Some(PassName::Simplify),
+            "optimize" => Some(PassName::Optimize),
             "const" => Some(PassName::Const),
             "inline" => Some(PassName::Inline),
             "json" => Some(PassName::Json),
@@ -49,6 +51,8 @@ pub struct Options {
     pub max_rounds: usize,
     /// How many bytes of JSON a literal has at least to be replaced.
     pub min_cost: usize,
+    /// Whether the answer is printed without white space that it doesn't need.
+    pub compact: bool,
 }
 
 impl Options {
@@ -80,6 +84,7 @@ impl Options {
             preserve_imports_with_side_effects: true,
             max_rounds: usize::MAX,
             min_cost: 1024,
+            compact: false,
         }
     }
 
@@ -93,6 +98,10 @@ impl Options {
             }),
             "--drop-imports" => Some(Options {
                 preserve_imports_with_side_effects: false,
+                ..self
+            }),
+            "--compact" => Some(Options {
+                compact: true,
                 ..self
             }),
             _ => None,

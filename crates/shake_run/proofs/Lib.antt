@@ -1,3 +1,4 @@
+pub mod Doing
 pub mod Flags
 pub mod Refusals
 pub mod Running

@@ -9,10 +9,11 @@ use Rattle.swc_expr.specs.Simplified.{simplify_spec}
 use Rattle.swc_branch.specs.Removed.{remove_spec}
 use Rattle.swc_dce.specs.Shaken.{Told, shake_spec}
 use Rattle.swc_json_parse.specs.Answers.{Parsed}
+use Rattle.swc_optimization.specs.Optimizer.{optimize_spec}
 use Rattle.swc_optimization.specs.Simplifier.{rounds_spec}
 use Rattle.shake_options.specs.declared.options.Options.{Options}
 use Rattle.shake_options.specs.declared.options.PassName.{PassName}
-use Rattle.shake_options.specs.declared.options.PassName.TheVariants.{Expr, Branch, Dce, Simplify, Const, Inline, Json}
+use Rattle.shake_options.specs.declared.options.PassName.TheVariants.{Expr, Branch, Dce, Simplify, Optimize, Const, Inline, Json}
 
 -- what the options tell the tree shaker of modules whose unresolved names bear this mark; names of these texts stay
 abbrev pub told_by : Mark → Options → List Text → Told
@@ -28,6 +29,7 @@ pass_of Expr told most least = simplify_spec told.mark
 pass_of Branch told most least = remove_spec told.mark
 pass_of Dce told most least = shake_spec told
 pass_of Simplify told most least = rounds_spec told most
+pass_of Optimize told most least = optimize_spec told most
 pass_of Const told most least = propagation_spec constants
 pass_of Inline told most least = propagation_spec inlines
 pass_of Json told most least = json_spec least

@@ -21,7 +21,7 @@ pub(crate) fn answer(
     mark: Mark,
     text: &str,
 ) -> Result<Module, Fault>
-    ensures becomes { IfOk result (λ r. Becomes (map flag_texts flags.now) mark options (map string_bytes retained.items) (module_tree r)) }
+    ensures becomes { IfOk result (λ r. Becomes (map flag_texts flags.now) mark options (map string_bytes retained.items) text.now (module_tree r)) }
     ensures unanswered { IfErr result (Unanswered flags.now) }
 {
     let module = match read_module(alloc, text, mark) {

@@ -5,9 +5,11 @@ mod answer;
 mod fault;
 mod flagged;
 mod input;
+mod notices;
 mod passes;
 mod work;
 
 pub use fault::Fault;
 pub use flagged::run_pass;
+pub use notices::inform;
 pub use work::{run, tell};

@@ -19,7 +19,7 @@ use swc_dce::dce;
 use swc_expr::expr_simplifier;
 use swc_inlining::inlining;
 use swc_json_parse::json_parse;
-use swc_optimization::simplifier;
+use swc_optimization::{optimizer, simplifier};
 use swc_pass::Pass;
 
 /// What the tree shaker is told.
@@ -34,6 +34,21 @@ fn shaking(options: Options, top_retain: Vec<String>) -> swc_dce::Config
         top_level: options.top_level,
         top_retain,
         preserve_imports_with_side_effects: options.preserve_imports_with_side_effects,
+    }
+}
+
+/// What the simplifier is told.
+fn simplifying(options: Options, retained: Vec<String>) -> swc_optimization::Config
+    ensures top_level { result.dce.top_level ≡ options.top_level }
+    ensures top_retain { result.dce.top_retain ≡ retained }
+    ensures imports { result.dce.preserve_imports_with_side_effects ≡ options.preserve_imports_with_side_effects }
+    ensures max_rounds { result.max_rounds ≡ options.max_rounds }
+{
+    swc_optimization::Config {
+        dce: shaking(options, retained),
+        inlining: swc_inlining::Config {},
+        expr: swc_expr::Config {},
+        max_rounds: options.max_rounds,
     }
 }
 
@@ -68,13 +83,11 @@ pub(crate) fn named_pass(
             pass.fold_module(alloc, module)
         }
         PassName::Simplify => {
-            let config = swc_optimization::Config {
-                dce: shaking(options, retained),
-                inlining: swc_inlining::Config {},
-                expr: swc_expr::Config {},
-                max_rounds: options.max_rounds,
-            };
-            let mut pass = simplifier(mark, config);
+            let mut pass = simplifier(mark, simplifying(options, retained));
+            pass.fold_module(alloc, module)
+        }
+        PassName::Optimize => {
+            let mut pass = optimizer(mark, simplifying(options, retained));
             pass.fold_module(alloc, module)
         }
         PassName::Const => {

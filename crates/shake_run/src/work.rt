@@ -1,10 +1,15 @@
 //! From the words of a command line and a reader to a writer.
-ghost use Rattle.std.specs.Prelude.{◌≡◌, ◌≢◌, ◌≤◌, ◌↔◌, IsNone, IfOk, IfErr, map, string_bytes};
+ghost use Rattle.std.specs.Prelude.{◌≡◌, ◌≢◌, ◌≤◌, ◌↔◌, [], true, IsNone, IfOk, IfErr, map, string_bytes};
 ghost use Rattle.shake_options.specs.CommandLine.{command_line};
 ghost use Rattle.shake_run.specs.Done.{Done};
 ghost use Rattle.shake_run.specs.Status.{status_of};
 ghost use Rattle.shake_run.specs.declared.fault.Fault.TheVariants.{Arguments, Print, Output};
+ghost use Rattle.swc_ast.specs.Modules.{module_tree};
+ghost use Rattle.swc_ast.specs.Valid.{valid};
+ghost use Rattle.swc_text.specs.Refused.{Refuses};
+ghost use Rattle.swc_text.specs.Texts.{IsPrinted};
 ghost use Rattle.swc_text.specs.declared.error.PrintError.TheVariants.{Invalid};
+ghost use Rattle.tree_captures.specs.Captured.{no_scope, captured};
 
 use crate::answer::answer;
 use crate::fault::Fault;
@@ -13,8 +18,8 @@ use shake_options::{Options, flags_of, retained};
 use std::alloc::Global;
 use std::io::{Read, Write};
 use std::mem::ManuallyDrop;
-use swc_ast::Mark;
-use swc_text::print;
+use swc_ast::{Mark, Module};
+use swc_text::{PrintError, print, print_compact};
 
 /// The program's work: `args` are the words behind its name. Reads a module from `reader`, with the unresolved mark 1,
 /// runs the pass that the first word names and writes the answer. Gives the exit status: 0; 1 on a failure, with one
@@ -33,8 +38,9 @@ pub fn run<R: Read, W: Write, E: Write>(
     ensures unread { result ≡ 2 → reader.new ≡ reader.old }
     ensures unwritten { result ≡ 2 → writer.new ≡ writer.old }
     ensures silent { result ≡ 0 → errors.new ≡ errors.old }
-    // There is a module that the text was read as, resolved and in the core, and a module that does the same was printed.
-    ensures done { result ≡ 0 → Done (map string_bytes args.now) }
+    // What was left to read is `IsReadModule` of a module, and what was written is `IsPrinted` of what the pass makes of it. That these
+    // are texts of the two isn't said.
+    ensures done { result ≡ 0 → Done (map string_bytes args.now) (R.remaining reader.old) (W.contents writer.old) (W.contents writer.new) }
 {
     match work(alloc, args, reader, writer) {
         Ok(()) => 0,
@@ -50,6 +56,20 @@ pub fn tell<E: Write>(fault: Fault, errors: &mut E) -> u8
     fault.status()
 }
 
+/// The text of an answer.
+fn printed(alloc: Global, m: &Module, compact: bool) -> Result<String, PrintError>
+    ensures printed { IfOk result (λ text. IsPrinted (module_tree m.now) (string_bytes text)) }
+    ensures uncaptured { IfOk result (λ _. captured no_scope (module_tree m.now) ≡ []) }
+    ensures valid { IfOk result (λ _. valid (module_tree m.now) ≡ true) }
+    ensures refused { IfErr result (Refuses (module_tree m.now)) }
+{
+    if compact {
+        print_compact(alloc, m)
+    } else {
+        print(alloc, m)
+    }
+}
+
 #[tactic(auto, using(crate::proofs::Refusals::no_arguments, crate::proofs::Refusals::no_output, crate::proofs::Refusals::no_print))]
 fn work<R: Read, W: Write>(
     alloc: Global,
@@ -58,7 +78,7 @@ fn work<R: Read, W: Write>(
     writer: &mut W,
 ) -> Result<(), Fault>
     ensures ok { IfOk result (λ u. command_line (map string_bytes args.now) ≢ None) }
-    ensures done { IfOk result (λ _. Done (map string_bytes args.now)) }
+    ensures done { IfOk result (λ _. Done (map string_bytes args.now) (R.remaining reader.old) (W.contents writer.old) (W.contents writer.new)) }
     ensures arguments { IfErr result (λ fault. (fault ≡ Arguments) ↔ IsNone (command_line (map string_bytes args.now))) }
     ensures unread { IfErr result (λ fault. fault ≡ Arguments → reader.new ≡ reader.old) }
     ensures unwritten { IfErr result (λ fault. fault ≢ Output → writer.new ≡ writer.old) }
@@ -80,7 +100,7 @@ fn work<R: Read, W: Write>(
     // The process ends behind this, so nothing is won by dropping the tree.
     let simpler = ManuallyDrop::new(simpler);
     // The text is whole before the first write.
-    let printed = print(alloc, &simpler).map_err(Fault::Print)?;
+    let printed = printed(alloc, &simpler, options.compact).map_err(Fault::Print)?;
     writer
         .write_all(printed.as_bytes())
         .map_err(|_| Fault::Output)?;

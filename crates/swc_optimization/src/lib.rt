@@ -1,16 +1,19 @@
-//! The simplifier: the expression simplifier, the remover of dead branches and the tree shaker, in rounds. All else that a caller
-//! needs is named again here.
+//! The simplifier: the expression simplifier, the remover of dead branches and the tree shaker, in rounds, and the optimizer, which inlines
+//! names in front of it. All else that a caller needs is named again here.
 #![tactic(auto)]
 
 ghost use Rattle.swc_optimization.specs.Laws.{RoundIsLawful, RowsAreRounds, ReachedIsSettled};
 
 pub mod ast;
 mod config;
+mod optimize;
 mod passes;
 mod rounds;
 pub mod simplify;
 pub mod utils;
 
+pub use optimize::optimizer;
+pub use passes::Optimizer;
 pub use simplify::{Config, Simplifier, simplifier};
 pub use swc_const_modules::{ConstModules, const_modules};
 pub use swc_debug as debug;

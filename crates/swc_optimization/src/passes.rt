@@ -14,7 +14,8 @@ use crate::rounds::{Passes, Program};
 use std::alloc::Global;
 use std::marker::Model;
 use swc_ast::{Mark, Module, PassError, Script};
-use swc_pass::{Pass, Repeated};
+use swc_inlining::Inlining;
+use swc_pass::{Chain, Pass, Repeat, Repeated};
 
 /// Runs the expression simplifier, the remover of dead branches and the tree shaker, in this order, until a round of them
 /// changes nothing or the limit is reached.
@@ -34,6 +35,9 @@ impl Model for Simplifier {
 
     ghost view = { λ s. record { told = s.passes; most = s.max_rounds; rounds = s.rounds; reached = s.reached; changed = s.changed } };
 }
+
+/// Inlines names and simplifies what that makes, until a round of both changes nothing or the limit is reached.
+pub type Optimizer = Repeat<Chain<Inlining, Simplifier>>;
 
 /// Returns whether one of the rounds changed something.
 fn is_some_changing(rounds: usize, reached: bool) -> bool

@@ -144,10 +144,15 @@ impl<'a> Scanner<'a> {
         Kind::WideName
     }
 
-    /// A regular expression, or a punctuator.
+    /// A regular expression, or a punctuator. A comment without an end, where a regular expression may begin, is neither.
     #[inline(always)]
-    fn slash(&mut self, begins_regex: bool) -> Kind {
-        if !begins_regex {
+    fn slash(&mut self, before: &Tokens) -> Kind
+        requires { self.old.place < length self.old.bytes.now }
+    {
+        if byte_at(self.bytes, self.place + 1) == b'*' && before.may_want_operand() {
+            return Kind::Bad;
+        }
+        if !before.want_operand() {
             return self.long_punctuator();
         }
         self.advance(1);
@@ -259,7 +264,7 @@ impl<'a> Scanner<'a> {
             b';' => Ok(self.single(Kind::Semicolon)),
             b',' => Ok(self.single(Kind::Comma)),
             b':' => Ok(self.single(Kind::Colon)),
-            b'/' => Ok(self.slash(before.want_operand())),
+            b'/' => Ok(self.slash(before)),
             _ => Ok(self.other(first)),
         }
     }

@@ -47,6 +47,15 @@ impl Tokens {
         is_operand_wanted(self.kind_before(2), self.kind_before(1))
     }
 
+    /// Whether an operand may come next: also behind what ends an operand or stands before one.
+    #[inline(always)]
+    pub(crate) fn may_want_operand(&self) -> bool {
+        match self.kind_before(1) {
+            Kind::RightParen | Kind::RightBrace | Kind::PlusPlus | Kind::MinusMinus => true,
+            _ => self.want_operand(),
+        }
+    }
+
     /// Opens the bracket that comes next, at this place.
     #[inline(always)]
     pub(crate) fn open(&mut self, here: u32) -> Result<(), AllocError> {

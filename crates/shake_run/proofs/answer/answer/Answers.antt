@@ -8,8 +8,7 @@ returns-in-Ok-run_pass-clause-becomes c =
     let read = c.in-Ok.ensures in let ran = c.in-Ok-run_pass.ensures in
     record {
       read = module_tree c.in-Ok.module;
-      read_resolved = read.resolved;
-      read_core = read.core;
+      is_read = read.read;
       answers = ran.answers;
       same = λ no_json. ran.same no_json read.resolved read.core;
       resolved = ran.resolved read.resolved;
