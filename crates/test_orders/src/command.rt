@@ -27,6 +27,10 @@ impl CommandLine {
         let words = self.words.as_slice();
         let status = run(alloc, words, &mut input, &mut output, &mut errors);
         let is_read = input.len() != text.len();
+        // The last line of a compact text has no end.
+        if status == 0 && words.iter().any(|word| word.as_str() == "--compact") {
+            output.push(b'\n')?;
+        }
         push_run(
             alloc,
             told,

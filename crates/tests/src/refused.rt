@@ -1,5 +1,5 @@
-//! Memory that is refused once, at whichever request: `rt try --test --fail-alloc N` refuses the N-th. What is refused says so, and
-//! gives the right answer when it is asked again.
+//! Calls that give their answer, or say that memory is refused and give it when they are asked again. `tools/refuse --tests` and
+//! `rt try --test --fail-alloc N` refuse the N-th request. The gate refuses none, so there these are tests of the answers alone.
 use crate::texts::unresolved;
 use std::alloc::{AllocError, Global};
 use std::collections::BTreeMap;
@@ -95,7 +95,7 @@ fn tries<P: Pass>(rt: &impl Abort, alloc: Global, pass: &mut P, rows: &[Row]) {
 }
 
 #[test]
-fn passes_are_refused_and_run_again(rt: HostRuntime) {
+fn propagation_answers_at_once_or_when_asked_again(rt: HostRuntime) {
     let alloc = rt.alloc();
     let rows: [Row; 1] = [("const a = 1; f(a); x = a;", "const a = 1;\nf(1);\nx = a;\n")];
     tries(&rt, alloc, &mut constant_propagation(), &rows);
@@ -107,7 +107,7 @@ fn passes_are_refused_and_run_again(rt: HostRuntime) {
 }
 
 #[test]
-fn the_simplifier_is_refused_and_runs_again(rt: HostRuntime) {
+fn the_simplifier_answers_at_once_or_when_asked_again(rt: HostRuntime) {
     let alloc = rt.alloc();
     let mark = unresolved(&rt);
     let rows: [Row; 5] = [
@@ -128,7 +128,7 @@ fn the_simplifier_is_refused_and_runs_again(rt: HostRuntime) {
 
 /// A refused run tells of no round.
 #[test]
-fn no_round_is_told_of_a_refused_run(rt: HostRuntime) {
+fn rounds_are_told_of_a_run_and_none_of_a_refused_one(rt: HostRuntime) {
     let alloc = rt.alloc();
     let mark = unresolved(&rt);
     let mut pass = simplifier(mark, Config::new(alloc));
@@ -141,7 +141,7 @@ fn no_round_is_told_of_a_refused_run(rt: HostRuntime) {
 }
 
 #[test]
-fn literals_are_refused_and_taken_then(rt: HostRuntime) {
+fn literals_are_taken_at_once_or_when_asked_again(rt: HostRuntime) {
     let alloc = rt.alloc();
     let module = read(&rt, alloc, "f({b: 1, a: 2});");
     let mut pass = json_parse(13);
@@ -178,7 +178,7 @@ fn put(rt: &impl Abort, alloc: Global, pass: &mut InlineGlobals<'_>, module: &Mo
 }
 
 #[test]
-fn members_are_refused_and_put_then(rt: HostRuntime) {
+fn members_are_put_at_once_or_when_asked_again(rt: HostRuntime) {
     let alloc = rt.alloc();
     let mark = unresolved(&rt);
     let envs = match environment(alloc) {
@@ -245,7 +245,7 @@ fn tries_imports(
 
 /// Memory that is refused is told as such, and what the pass refuses of itself is told then.
 #[test]
-fn given_imports_are_refused_and_put_then(rt: HostRuntime) {
+fn given_imports_are_put_at_once_or_when_asked_again(rt: HostRuntime) {
     let alloc = rt.alloc();
     let mark = unresolved(&rt);
     let mut pass = match given(alloc, mark) {
@@ -279,7 +279,7 @@ fn put_in(rt: &impl Abort, alloc: Global, map: &mut GlobalExprMap, text: &str, b
 
 /// A refused insertion leaves the map, and looking something up takes no memory.
 #[test]
-fn a_refused_insertion_leaves_the_map(rt: HostRuntime) {
+fn a_value_is_in_the_map_at_once_or_when_put_again(rt: HostRuntime) {
     let alloc = rt.alloc();
     let mut map = GlobalExprMap::new(alloc);
     for (text, before, behind) in [
