@@ -7,10 +7,12 @@ const { spawnSync } = require('node:child_process');
 const fs = require('node:fs');
 const path = require('node:path');
 const test = require('node:test');
+const { PASSES } = require('./shake.js');
 
 const TOP = path.join(__dirname, '..');
 const read = (...parts) => fs.readFileSync(path.join(TOP, ...parts), 'utf8');
-const documents = ['README.md', ...fs.readdirSync(path.join(TOP, 'docs')).map((name) => `docs/${name}`)];
+const pages = fs.readdirSync(path.join(TOP, 'docs'), { recursive: true }).filter((name) => name.endsWith('.md'));
+const documents = ['README.md', 'CHANGELOG.md', ...pages.map((name) => `docs/${name}`)];
 
 // The texts of all files of one kind in the folder `src` or `specs` of each crate.
 function textOf(folder, ending) {
@@ -61,18 +63,55 @@ test('each constructor of RULES is in the table of texts and edits, and each hea
     }
 });
 
-const python = spawnSync('python3', ['--version']).error === undefined;
+const python = { skip: spawnSync('python3', ['--version']).error === undefined ? false : 'python3 is not installed' };
 
-test('the table of crates is that of tools/crates', { skip: python ? false : 'python3 is not installed' }, () => {
-    const { status, stdout } = spawnSync('python3', [path.join(TOP, 'tools', 'crates')], { encoding: 'utf8' });
-    assert.equal(status, 0);
-    assert.ok(read('docs', 'ARCHITECTURE.md').includes(stdout), 'call tools/crates --write');
+// What a tool prints that is written in Python.
+function printed(tool, ...words) {
+    const { status, stdout } = spawnSync('python3', [path.join(TOP, 'tools', tool), ...words], { encoding: 'utf8' });
+    assert.equal(status, 0, stdout);
+    return stdout;
+}
+
+test('CRATES is what tools/crates prints', python, () => {
+    assert.equal(read('docs', 'CRATES.md'), printed('crates'), 'call tools/crates --write');
 });
 
-test('GATE and ARCHITECTURE name each crate', () => {
+test('the floors that ARCHITECTURE draws are those of CRATES', () => {
+    const floors = new Map([...read('docs', 'CRATES.md').matchAll(/^\| (\d+) \| \[`(\w+)`\]/gm)].map(([, floor, crate]) => [crate, floor]));
+    const [, drawing] = read('docs', 'ARCHITECTURE.md').split('```\n');
+    for (const [, names, floor] of drawing.matchAll(/((?:\w+, +)*\w+) \((\d+)\)/g)) {
+        for (const crate of names.split(/, +/)) if (floors.has(crate)) assert.equal(floor, floors.get(crate), crate);
+    }
+});
+
+test('CRATES says of each crate what is proved or tested', () => {
+    for (const [, crate, , proved, tested] of read('docs', 'CRATES.md').matchAll(/^\| \d+ \| \[`(\w+)`\][^|]*\|([^|]*)\|([^|]*)\|([^|]*)\|/gm)) {
+        assert.ok(proved.trim() !== '' || tested.trim() !== '', crate);
+    }
+});
+
+test('the list of functions without an edit is that of tools/edits', python, () => {
+    assert.ok(read('docs', 'GATE.md').includes(`-->\n${printed('edits', '--unedited')}<!--`), 'call tools/edits --unedited --write');
+});
+
+test('GATE has the numbers of edits', python, () => {
+    for (const [, folder, count] of printed('edits').matchAll(/^(\S+): (\d+) edits/gm)) {
+        assert.match(read('docs', 'GATE.md'), new RegExp(`^\\| \`crates/NAME/${folder}\` \\| ${count}:`, 'm'), folder);
+    }
+});
+
+test('each edit that RULES names is there', () => {
+    const document = read('docs', 'RULES.md');
+    for (const [, crate, name] of document.slice(document.indexOf('## Texts and edits')).matchAll(/`([a-z]\w*)\/([\w-]+)`/g)) {
+        const places = ['must-fail', 'wrong'].map((folder) => path.join(TOP, 'crates', crate, folder, `${name}.edit`));
+        assert.ok(places.some((file) => fs.existsSync(file)), `${crate}/${name}`);
+    }
+});
+
+test('the costs and CRATES name each crate', () => {
     const crates = [...read('crates.txt').matchAll(/^(\w+):/gm)].map(([, name]) => name);
-    for (const name of ['GATE.md', 'ARCHITECTURE.md']) {
-        for (const crate of crates) assert.ok(read('docs', name).includes(`\`${crate}\``), `${name}: ${crate}`);
+    for (const name of ['docs/notes/costs.md', 'docs/CRATES.md']) {
+        for (const crate of crates) assert.ok(read(name).includes(`\`${crate}\``), `${name}: ${crate}`);
     }
 });
 
@@ -87,13 +126,69 @@ test('no pass uses a crate of another pass', () => {
     }
 });
 
-test('the name of a crate tells whether it is public, and whether it has code', () => {
-    const table = read('README.md').split('## The public crates')[1].split('\n## ')[0];
+test('the name of a crate tells whether it has code', () => {
     for (const [, crate] of read('crates.txt').matchAll(/^(\w+):/gm)) {
-        if (crate.startsWith('swc_')) assert.ok(table.includes(`\`${crate}\``), `${crate} is not in the table of public crates`);
         if (!/_(rules|proofs)$/.test(crate)) continue;
         const sources = fs.readdirSync(path.join(TOP, 'crates', crate, 'src'));
         const bodies = sources.flatMap((file) => read('crates', crate, 'src', file).match(/^\{[^}]*\S[^}]*\}/gm) ?? []);
         assert.deepEqual(bodies, [], `${crate} has code`);
     }
+});
+
+test('the help of the program names each pass and each option of CLI', () => {
+    const source = read('crates', 'shake_options', 'src', 'notice.rt');
+    const help = source.slice(source.indexOf('const HELP'));
+    for (const pass of PASSES) assert.match(help, new RegExp(`^  ${pass} `, 'm'));
+    for (const [option] of read('docs', 'CLI.md').matchAll(/(?<!-)--[a-z][a-z-]*/g)) assert.ok(help.includes(option), option);
+    assert.ok(source.includes(`"shake ${JSON.parse(read('package.json')).version}\\n"`));
+});
+
+test('help and version of the program', { skip: process.env.SHAKE === undefined ? 'SHAKE is not set' : false }, () => {
+    const run = (...words) => spawnSync(process.env.SHAKE, words, { input: '', encoding: 'utf8' });
+    for (const words of [['--help'], ['-h'], ['simplify', '--help'], ['fold', '-h', '--version']]) {
+        const { status, stdout, stderr } = run(...words);
+        assert.deepEqual([status, stderr], [0, '']);
+        assert.match(stdout, /^Usage: shake PASS/);
+    }
+    const { version } = JSON.parse(read('package.json'));
+    for (const word of ['--version', '-v']) assert.equal(run(word).stdout, `shake ${version}\n`);
+    // Such a word is an operand here.
+    assert.equal(run('simplify', '--retain', '--help').stdout, '');
+    assert.equal(run('simplify', '--retain').status, 2);
+});
+
+test('the first screen of README has 40 lines at most', () => {
+    const lines = read('README.md').split('\n');
+    assert.ok(lines.findIndex((line) => line.startsWith('## ')) <= 40);
+});
+
+test('the example of README is what the program makes', { skip: process.env.SHAKE === undefined ? 'SHAKE is not set' : false }, () => {
+    const document = read('README.md');
+    const [before, after] = [...document.matchAll(/^```js\n(.*?)^```$/gms)].map(([, text]) => text);
+    const [, words] = /^`shake (.*?)` makes$/m.exec(document);
+    const { status, stdout, stderr } = spawnSync(process.env.SHAKE, words.split(' '), { input: before, encoding: 'utf8' });
+    assert.equal(status, 0, stderr);
+    assert.equal(stdout.trimEnd(), after.trimEnd());
+});
+
+test('the example of a library in USING is that of crates/example', () => {
+    const [, section] = read('docs', 'USING.md').split('\n## As a library\n');
+    const blocks = [...section.matchAll(/^```(?:rust|js)\n(.*?)^```$/gms)].slice(0, 3).map(([, text]) => text);
+    assert.deepEqual(blocks, ['src/main.rt', 'stdin', 'stdout'].map((name) => read('crates', 'example', ...name.split('/'))));
+});
+
+test('BENCH and HOSTILE have one table each, which tools/bench writes', () => {
+    const tool = read('tools', 'bench');
+    for (const name of ['BENCH.md', 'HOSTILE.md']) {
+        const text = read('docs', name);
+        const heads = [...text.matchAll(/^(\|.*\|)\n\|---/gm)].map(([, head]) => head);
+        assert.equal(heads.length, 1, name);
+        assert.ok(tool.includes(`"${heads[0]}\\n`), heads[0]);
+        assert.match(text, /^<!-- tools\/bench --write -->\n\n\|[^]*\|\n\n<!-- end of the table -->$/m);
+    }
+});
+
+test('tools/bench measures the program', python.skip ? python : { skip: process.env.SHAKE === undefined ? 'SHAKE is not set' : false }, () => {
+    const table = printed('bench', '--program', process.env.SHAKE, '--times', '--runs', '1', '--scale', '0.01');
+    for (const text of ['1 MB', '10 MB', '10 MB of `f(1 + 2);`']) assert.ok(table.includes(`\n| ${text} | \`shake simplify\` | `), text);
 });

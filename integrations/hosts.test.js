@@ -1,26 +1,20 @@
 'use strict';
 
-// The small project in `example` is built by each bundler without and with the plugin. Both outputs have to do the same
-// when node runs them. A bundler that isn't installed is skipped. SHAKE is the path of a built `shake`; without it its
-// replacement is run.
+// Chunks of the small project in `example` are simplified by each bundler. Both outputs, without and with the plugin, have to
+// do the same when node runs them. A bundler that isn't installed is skipped. SHAKE is the path of a built `shake`; without it
+// its replacement is run.
 
 const assert = require('node:assert/strict');
 const fs = require('node:fs');
 const path = require('node:path');
-const test = require('node:test');
-const { example, fake, host, program, room, runs } = require('./support/hosts.js');
+const { hosted } = require('./support/bundlers.js');
+const { example, fake, host, program, room, runs, writeAll } = require('./support/hosts.js');
 
 const ENTRIES = { main: example('main.mjs'), outside: example('outside.mjs') };
+const BUNDLERS = ['rollup', 'vite', 'webpack', 'esbuild'];
 
 // The options of a plugin that adds its report to the list.
-const reporting = (reports, more = {}) => ({ program, report: (report) => reports.push(report), ...more });
-
-// The test of a bundler: skipped where there is none.
-function hosted(name, title, body) {
-    const bundler = host(name);
-    const skip = bundler === null ? `${name} is not installed` : false;
-    test(`${name}: ${title}`, { skip }, (t) => body(bundler, t));
-}
+const reporting = (reports, more = {}) => ({ program, unit: 'chunk', report: (report) => reports.push(report), ...more });
 
 // The outputs of both builds do the same.
 function assertSame(plain, shaken, ending) {
@@ -34,20 +28,15 @@ function assertSame(plain, shaken, ending) {
 // One chunk lies outside the core, and its class is where the report says.
 function assertReport(reports, folder) {
     assert.equal(reports.length, 1);
-    const [{ chunks, simplified, bytesBefore, bytesAfter, left }] = reports;
+    const [{ unit, total, simplified, bytesBefore, bytesAfter, left }] = reports;
+    assert.equal(unit, 'chunk');
     assert.equal(left.length, 1);
-    assert.equal(simplified, chunks - 1);
+    assert.equal(simplified, total - 1);
     assert.ok(bytesAfter < bytesBefore);
     const [{ name, reason, line, column }] = left;
     assert.equal(reason, 'out of core: Class');
     const text = fs.readFileSync(path.join(folder, name), 'utf8').split('\n')[line - 1];
     assert.match(text.slice(column), /^class\b/);
-}
-
-// There is one warning for each simplified chunk.
-function assertMapWarnings(texts, reports) {
-    const dropped = texts.filter((text) => /source map of .* is dropped/.test(text));
-    assert.equal(dropped.length, reports[0].simplified);
 }
 
 // One map is left: that of the chunk which was left alone.
@@ -59,128 +48,124 @@ function assertMaps(folder) {
     }
 }
 
-async function rollupBuild({ rollup }, dir, plugins, output = {}, onwarn = () => {}) {
-    const bundle = await rollup({ input: ENTRIES, plugins, onwarn });
-    await bundle.write({ dir, entryFileNames: '[name].mjs', chunkFileNames: '[name]-[hash].mjs', ...output });
-    await bundle.close();
+for (const name of BUNDLERS) {
+    hosted(name, 'chunks are simplified and do the same', async (build, t) => {
+        const [plain, shaken, reports] = [room(t), room(t), []];
+        await build(ENTRIES, plain, {});
+        const { ending } = await build(ENTRIES, shaken, { options: reporting(reports), more: name === 'esbuild' ? { absWorkingDir: shaken } : {} });
+        assertSame(plain, shaken, ending);
+        assertReport(reports, shaken);
+    });
+
+    hosted(name, 'source maps of simplified chunks are dropped with a warning', async (build, t) => {
+        const [folder, reports, warnings] = [room(t), [], []];
+        const more = { rollup: { output: { sourcemap: true } }, webpack: { devtool: 'source-map' } }[name] ?? { sourcemap: true };
+        await build(ENTRIES, folder, { options: reporting(reports), more, warnings });
+        assert.equal(warnings.filter((text) => /source map of .* is dropped/.test(text)).length, reports[0].simplified);
+        assertMaps(folder);
+    });
+
+    hosted(name, 'a program that fails is an error, and flags that are lost too', async (build, t) => {
+        const failing = (define) => build(ENTRIES, room(t), { options: { program: fake, unit: 'chunk', define } });
+        await assert.rejects(failing({ x: '(' }), /define\.x: unexpected end/);
+        await assert.rejects(failing({ Box: '1' }), /left as it is: out of core: Class; so nothing replaces Box in it/);
+        const warnings = [];
+        await build(ENTRIES, room(t), { options: reporting([], { define: { Box: '1' }, left: 'warn' }), warnings });
+        assert.equal(warnings.filter((text) => /nothing replaces Box/.test(text)).length, 1);
+    });
+
+    hosted(name, 'a build in which no chunk is simplified is a warning', async (build, t) => {
+        const warnings = [];
+        await build({ outside: ENTRIES.outside }, room(t), { options: { program, unit: 'chunk' }, warnings });
+        assert.ok(warnings.includes('zorikham: 0 of 1 chunks simplified'), warnings.join('\n'));
+    });
 }
 
-hosted('rollup', 'builds the same', async (rollup, t) => {
-    const [plain, shaken, reports] = [room(t), room(t), []];
-    const plugin = require('./rollup.js');
-    await rollupBuild(rollup, plain, []);
-    await rollupBuild(rollup, shaken, [plugin(reporting(reports))]);
-    assertSame(plain, shaken, '.mjs');
-    assertReport(reports, shaken);
-});
-
-hosted('rollup', 'drops source maps with a warning', async (rollup, t) => {
-    const [folder, reports, warnings] = [room(t), [], []];
-    const plugin = require('./rollup.js')(reporting(reports));
-    await rollupBuild(rollup, folder, [plugin], { sourcemap: true }, (warning) => warnings.push(warning.message));
-    assertMapWarnings(warnings, reports);
-    assertMaps(folder);
-});
-
-hosted('rollup', 'fails where the program fails', async (rollup, t) => {
-    const plugin = require('./rollup.js');
-    const memory = { name: 'memory', renderChunk: () => "f('MEMORY');" };
-    await assert.rejects(rollupBuild(rollup, room(t), [memory, plugin({ program: fake })]), /shake: out of memory/);
+hosted('rollup', 'faults have a place', async (build, t) => {
     const syntax = { name: 'syntax', renderChunk: () => 'f();\n @' };
-    await assert.rejects(rollupBuild(rollup, room(t), [syntax, plugin({ program: fake })]), (error) => {
-        assert.match(error.message, /shake: syntax/);
-        assert.equal(error.loc.line, 2);
-        assert.equal(error.loc.column, 1);
+    await assert.rejects(build(ENTRIES, room(t), { options: { program: fake, unit: 'chunk' }, plugins: [syntax] }), (error) => {
+        assert.match(error.message, /zorikham: syntax: unexpected "@"/);
+        assert.deepEqual([error.loc.line, error.loc.column], [2, 1]);
         return true;
     });
 });
 
-async function viteBuild({ build }, outDir, plugins, more = {}) {
-    const output = { entryFileNames: '[name].mjs', chunkFileNames: '[name]-[hash].mjs' };
-    const rollupOptions = { input: ENTRIES, output, preserveEntrySignatures: 'strict' };
-    await build({ configFile: false, logLevel: 'silent', root: example('.'), plugins,
-        build: { outDir, emptyOutDir: true, minify: false, modulePreload: false, rollupOptions, ...more } });
-}
-
-hosted('vite', 'builds the same', async (vite, t) => {
-    const [plain, shaken, reports] = [room(t), room(t), []];
-    const plugin = require('./rollup.js');
-    await viteBuild(vite, plain, []);
-    await viteBuild(vite, shaken, [plugin(reporting(reports))]);
-    assertSame(plain, shaken, '.mjs');
-    assertReport(reports, shaken);
-    const mapped = room(t);
-    await viteBuild(vite, mapped, [plugin(reporting([]))], { sourcemap: true });
-    assertMaps(mapped);
-});
-
-function webpackBuild(webpack, folder, plugins, more = {}) {
-    const entry = Object.fromEntries(Object.entries(ENTRIES).map(([name, file]) => [name, file]));
-    const options = { mode: 'production', target: 'node', entry, plugins, optimization: { minimize: false }, devtool: false,
-        output: { path: folder, filename: '[name].cjs' }, ...more };
-    return new Promise((resolve, reject) => {
-        webpack(options, (error, stats) => (error === null ? resolve(stats) : reject(error)));
-    });
-}
-
-hosted('webpack', 'builds the same', async (webpack, t) => {
-    const [plain, shaken, reports] = [room(t), room(t), []];
-    const Plugin = require('./webpack.js');
-    await webpackBuild(webpack, plain, []);
-    const stats = await webpackBuild(webpack, shaken, [new Plugin(reporting(reports))]);
-    assert.equal(stats.hasErrors(), false);
-    assertSame(plain, shaken, '.cjs');
-    assertReport(reports, shaken);
-});
-
-hosted('webpack', 'drops source maps with a warning', async (webpack, t) => {
-    const [folder, reports] = [room(t), []];
-    const Plugin = require('./webpack.js');
-    const stats = await webpackBuild(webpack, folder, [new Plugin(reporting(reports))], { devtool: 'source-map' });
-    assertMapWarnings(stats.compilation.warnings.map((warning) => warning.message), reports);
-    assertMaps(folder);
-});
-
-hosted('webpack', 'fails where the program fails', async (webpack, t) => {
-    const Plugin = require('./webpack.js');
-    const banner = new webpack.BannerPlugin({ banner: "f('MEMORY');", raw: true });
-    const stats = await webpackBuild(webpack, room(t), [banner, new Plugin({ program: fake })]);
-    assert.match(stats.compilation.errors[0].message, /shake: out of memory/);
-});
-
-function esbuildBuild({ build }, outdir, plugins, more = {}) {
-    return build({ entryPoints: Object.values(ENTRIES), bundle: true, format: 'esm', outdir, outExtension: { '.js': '.mjs' },
-        logLevel: 'silent', plugins, ...more });
-}
-
-hosted('esbuild', 'builds the same', async (esbuild, t) => {
-    const [plain, shaken, reports] = [room(t), room(t), []];
-    const plugin = require('./esbuild.js');
-    await esbuildBuild(esbuild, plain, []);
-    await esbuildBuild(esbuild, shaken, [plugin(reporting(reports))], { absWorkingDir: shaken });
-    assertSame(plain, shaken, '.mjs');
-    assertReport(reports, shaken);
-    const { outputFiles } = await esbuildBuild(esbuild, shaken, [plugin(reporting([]))], { write: false });
-    assert.equal(outputFiles.length, 2);
-});
-
-hosted('esbuild', 'drops source maps with a warning', async (esbuild, t) => {
-    const [folder, reports] = [room(t), []];
-    const plugin = require('./esbuild.js')(reporting(reports));
-    const { warnings } = await esbuildBuild(esbuild, folder, [plugin], { sourcemap: true });
-    assertMapWarnings(warnings.map((warning) => warning.text), reports);
-    assertMaps(folder);
-});
-
-hosted('esbuild', 'fails where the program fails', async (esbuild, t) => {
-    const plugin = require('./esbuild.js')({ program: fake });
-    const failing = esbuildBuild(esbuild, room(t), [plugin], { banner: { js: "f('MEMORY');" } });
-    await assert.rejects(failing, /shake: out of memory/);
-    const wrong = esbuildBuild(esbuild, room(t), [plugin], { banner: { js: "f();\n 'é', '@';" } });
+hosted('esbuild', 'faults have a place in bytes', async (build, t) => {
+    const wrong = build(ENTRIES, room(t), { options: { program: fake, unit: 'chunk' }, more: { banner: { js: "f();\n 'é', '@';" } } });
     await assert.rejects(wrong, (error) => {
-        assert.equal(error.errors[0].location.line, 2);
-        // In bytes, as esbuild counts.
-        assert.equal(error.errors[0].location.column, 8);
+        assert.deepEqual([error.errors[0].location.line, error.errors[0].location.column], [2, 8]);
         return true;
     });
 });
+
+hosted('esbuild', 'files that are not written come back simplified', async (build, t) => {
+    const folder = room(t);
+    const { result } = await build(ENTRIES, folder, { options: reporting([]), more: { write: false, metafile: true, sourcemap: true, absWorkingDir: folder } });
+    assert.equal(result.outputFiles.length, 3);
+    for (const { path: file, contents } of result.outputFiles) {
+        assert.equal(result.metafile.outputs[path.relative(folder, file)].bytes, contents.length);
+    }
+    assert.equal(Object.keys(result.metafile.outputs).length, 3);
+});
+
+hosted('esbuild', 'what is minified stays so', async (build, t) => {
+    const folder = room(t);
+    await build({ main: ENTRIES.main }, folder, { options: reporting([]), more: { minify: true } });
+    assert.doesNotMatch(fs.readFileSync(path.join(folder, 'main.mjs'), 'utf8').trim(), /\n| = /);
+});
+
+hosted('esbuild', 'stale hashes and a second instance are said', async (build, t) => {
+    const warnings = [];
+    await build({ main: ENTRIES.main }, room(t), { options: reporting([]), more: { entryNames: '[name]-[hash]' }, warnings });
+    assert.equal(warnings.filter((text) => /\[hash\] in names of files is of the text before/.test(text)).length, 1);
+    const second = require('./esbuild.js')({ program });
+    await assert.rejects(build(ENTRIES, room(t), { options: { program }, plugins: [second] }), /a build has this plugin once; for several passes give a list/);
+});
+
+hosted('esbuild', 'the second build of a context says what would be served', async (build, t) => {
+    const plugin = require('./esbuild.js')({ program, unit: 'chunk', report: false });
+    const context = await host('esbuild').context({ entryPoints: ENTRIES, bundle: true, format: 'esm', outdir: room(t), logLevel: 'silent', plugins: [plugin] });
+    const said = [];
+    for (let turn = 0; turn < 3; turn++) {
+        const { warnings } = await context.rebuild();
+        said.push(warnings.filter(({ text }) => text.includes('what is served is the text before it was simplified')).length);
+    }
+    await context.dispose();
+    assert.deepEqual(said, [0, 1, 0]);
+});
+
+// What is declared at the top of a chunk that nothing reads, by the form of the output.
+const TOP = {
+    'top.mjs': "import { write } from './write.mjs';\nfunction unread() { write('unread'); }\nwrite(1 + 2);\n",
+    'write.mjs': 'export const write = console.log;\nexport default {};\n',
+};
+const KEPT = {
+    rollup: [
+        [{ output: { format: 'es' } }, false], [{ output: { format: 'cjs' } }, false], [{ output: { format: 'iife' } }, false],
+        [{ output: { format: 'iife', name: 'lib' } }, true], [{ output: { format: 'umd', name: 'lib' } }, true],
+    ],
+    esbuild: [
+        [{ format: 'esm' }, false], [{ format: 'cjs' }, false], [{ format: 'iife' }, false], [{ format: undefined }, false],
+        [{ format: undefined, platform: 'node' }, false], [{ format: 'iife', globalName: 'lib' }, true], [{ format: undefined, globalName: 'lib' }, true],
+    ],
+    webpack: [
+        [{}, false], [{ output: { library: { type: 'commonjs2' } } }, false], [{ output: { library: { name: 'lib', type: 'var' } } }, true],
+        [{ output: { library: { name: 'lib', type: 'assign' } } }, true], [{ target: 'web', output: { iife: false } }, true],
+    ],
+};
+// A program that says whether it was asked to keep what is declared at the top.
+const asked = [process.execPath, '-e', "process.stdout.write(`globalThis.kept = ${process.argv.includes('--keep-top')};\\n`)"];
+
+for (const [name, rows] of Object.entries(KEPT)) {
+    hosted(name, 'what is declared at the top of a chunk is kept where something sees it', async (build, t) => {
+        const source = room(t);
+        writeAll(source, TOP);
+        for (const [more, kept] of rows) {
+            const folder = room(t);
+            const output = name === 'webpack' ? { output: { path: folder, filename: '[name].cjs', ...more.output } } : {};
+            await build({ top: path.join(source, 'top.mjs') }, folder, { options: { program: asked, unit: 'chunk', report: false }, more: { ...more, ...output } });
+            const [file] = fs.readdirSync(folder);
+            assert.match(fs.readFileSync(path.join(folder, file), 'utf8'), new RegExp(`kept = ${kept}`), JSON.stringify(more));
+        }
+    });
+}

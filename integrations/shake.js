@@ -1,150 +1,55 @@
 'use strict';
 
-// What the plugins share: options, runs of the program, places of faults, and the report of a build.
+// What the plugins and the front end share: one text is simplified, or left with a reason.
 
-const { spawn } = require('node:child_process');
 const os = require('node:os');
+const { flagsIn } = require('./flags.js');
+const { SyntaxFault, faultOf, reasonOf } = require('./messages.js');
+const { nearest, suggestion } = require('./nearest.js');
+const { PASSES, ShakeError, checkOptions, passesOf, unitsOf, withoutFlags, wordsOf } = require('./options.js');
+const { placeAt, placeOf, shownPlace } = require('./places.js');
+const { commandOf, run } = require('./program.js');
+const { Report, linesOf, mapWarning, mapsWarning, noteOf } = require('./report.js');
+const { annotationIn, isModule, licenceComments, withLicence } = require('./words.js');
 
-// The options of a plugin, each with the test that its value has to pass.
-const isText = (value) => typeof value === 'string';
-const isFlag = (value) => typeof value === 'boolean';
-const isCount = (value) => Number.isSafeInteger(value) && value >= 0;
-const isTexts = (value) => Array.isArray(value) && value.every(isText);
-const isObject = (value) => typeof value === 'object' && value !== null && !Array.isArray(value);
-// Texts by keys. A key ends at the first `=` on the command line, so none holds one.
-const isKey = (key) => key !== '' && !key.includes('=');
-const isGiven = (value) => isObject(value) && Object.entries(value).every(([key, text]) => isKey(key) && isText(text));
-const isGivenOfModules = (value) => isObject(value) && Object.entries(value).every(([name, given]) => isKey(name) && isGiven(given) && Object.keys(given).every((key) => !key.includes(':')));
+// Passes in a row come to an end by themselves; this many rounds are no endless loop.
+const MOST_ROUNDS = 100;
 
-const OPTIONS = {
-    program: (value) => isText(value) || (isTexts(value) && value.length > 0),
-    pass: isText,
-    keepTop: isFlag,
-    retain: isTexts,
-    dropImports: isFlag,
-    rounds: isCount,
-    minCost: isCount,
-    define: isGiven,
-    env: isGiven,
-    typeof: isGiven,
-    const: isGivenOfModules,
-    report: (value) => value === false || typeof value === 'function',
-};
-
-/** A fault of the build. `line` is counted from 1 and `column` from 0; both are undefined where the fault has no place. */
-class ShakeError extends Error {
-    constructor(message, place = {}) {
-        super(message);
-        this.name = 'ShakeError';
-        this.line = place.line;
-        this.column = place.column;
-    }
-}
-
-/** Throws a ShakeError where an option is unknown or its value is of the wrong kind. */
-function checkOptions(options) {
-    for (const [name, value] of Object.entries(options)) {
-        if (!Object.hasOwn(OPTIONS, name)) throw new ShakeError(`shake: there is no option ${name}`);
-        if (value !== undefined && !OPTIONS[name](value)) throw new ShakeError(`shake: the option ${name} has a wrong value`);
-    }
-}
-
-/** Returns the options as words of the command line. Throws as `checkOptions` does. */
-function wordsOf(options = {}) {
-    checkOptions(options);
-    const words = [options.pass ?? 'simplify'];
-    if (options.keepTop) words.push('--keep-top');
-    for (const name of options.retain ?? []) words.push('--retain', name);
-    if (options.dropImports) words.push('--drop-imports');
-    if (options.rounds !== undefined) words.push('--rounds', String(options.rounds));
-    if (options.minCost !== undefined) words.push('--min-cost', String(options.minCost));
-    for (const flag of ['define', 'env', 'typeof']) {
-        for (const [key, text] of Object.entries(options[flag] ?? {})) words.push(`--${flag}`, `${key}=${text}`);
-    }
-    for (const [module, given] of Object.entries(options.const ?? {})) {
-        for (const [key, text] of Object.entries(given)) words.push('--const', `${module}:${key}=${text}`);
-    }
-    return words;
-}
-
-/**
- * Returns the line and the column of a byte of a text in UTF-8. Lines are counted from 1, columns from 0 in UTF-16 units, as
- * the hosts count them. Lines end as ECMA-262 ends them.
- */
-function placeOf(text, offset) {
-    const before = Buffer.from(text, 'utf8').subarray(0, offset).toString('utf8');
-    const lines = before.split(/\r\n|[\n\r\u2028\u2029]/);
-    return { line: lines.length, column: lines[lines.length - 1].length };
-}
-
-// Lines of the program about texts that it doesn't simplify, though nothing is wrong with them.
-const OUTSIDE = /^(out of core|number range)(?: at (\d+))(?:: (\w+))?$|^too deep$|^too long$|^captured .+$/;
-
-/**
- * Returns why a text is left as it is, by the line that the program wrote: `{ reason }`, with `line` and `column` where
- * the line has an offset. Null for any other line.
- */
-function reasonOf(said, text) {
-    const found = OUTSIDE.exec(said);
-    if (found === null) return null;
-    const [, kind, offset, construct] = found;
-    if (kind === undefined) return { reason: said };
-    return { reason: construct === undefined ? kind : `${kind}: ${construct}`, ...placeOf(text, Number(offset)) };
-}
-
-/** Returns the fault that the program's line stands for. */
-function faultOf(said, text) {
-    const found = /^syntax at (\d+)$/.exec(said);
-    if (found !== null) return new ShakeError('shake: syntax', placeOf(text, Number(found[1])));
-    if (said === 'arguments') return new ShakeError('shake: the program does not know an option that was given');
-    return new ShakeError(`shake: ${said}`);
-}
-
-// A tree has millions of small nodes. With memory in pages of 2 MB, which Linux gives a program that asks for them, and with
-// thousands of freed nodes of each size at hand for new ones, the program takes up to a quarter less time (docs/BENCH.md). glibc
-// does so where this variable says it; other systems don't read it.
-const MEMORY = 'glibc.malloc.hugetlb=1:glibc.malloc.top_pad=67108864:glibc.malloc.tcache_count=4000';
-
-/** Returns the variables that the program is started with: those of this process, and what asks for memory so unless it is set. */
-function environment() {
-    return { GLIBC_TUNABLES: MEMORY, ...process.env };
-}
-
-/** Runs a command on a text. Returns `{ status, signal, output, errors }`. */
-function runCommand([program, ...words], text) {
-    return new Promise((resolve, reject) => {
-        const child = spawn(program, words, { stdio: ['pipe', 'pipe', 'pipe'], env: environment() });
-        const parts = { stdout: [], stderr: [] };
-        for (const stream of ['stdout', 'stderr']) child[stream].on('data', (part) => parts[stream].push(part));
-        const whole = (stream) => Buffer.concat(parts[stream]).toString('utf8');
-        child.on('error', (error) => reject(new ShakeError(`shake: ${program} can't be run: ${error.message}`)));
-        child.on('close', (status, signal) => resolve({ status, signal, output: whole('stdout'), errors: whole('stderr') }));
-        // The program may end before it has read everything.
-        child.stdin.on('error', () => {});
-        child.stdin.end(text, 'utf8');
-    });
-}
-
-/** Returns the command of the program: the option `program`, or the variable `SHAKE`, or `shake` of the path. */
-function commandOf(options) {
-    const program = options.program ?? process.env.SHAKE ?? 'shake';
-    return Array.isArray(program) ? program : [program];
+// Runs one pass on a text. Returns `{ code }` or `{ left }`.
+async function runPass(pass, text, options) {
+    const { code, status, said } = await run(wordsOf(options, pass), text, options);
+    if (code !== undefined) return { code };
+    const left = status === 1 ? reasonOf(said, text) : null;
+    if (left !== null) return { left };
+    throw faultOf(said, text, options);
 }
 
 /**
  * Simplifies one text. Returns `{ code }`, or `{ left }` with the reason where the text is left as it is. Throws a
- * ShakeError where the text has a syntax error or the program fails.
+ * ShakeError where the text has a syntax error or the program fails. Several passes run in turn until none changes anything;
+ * flags are for the first of them that reads the text.
  */
 async function simplify(text, options = {}) {
-    const words = wordsOf(options);
+    checkOptions(options);
     if (!text.isWellFormed()) return { left: { reason: 'a lone surrogate' } };
-    const { status, signal, output, errors } = await runCommand([...commandOf(options), ...words], text);
-    if (status === 0) return { code: output };
-    const said = errors.trimEnd().replace(/^shake: /, '');
-    const left = status === 1 ? reasonOf(said, text) : null;
-    if (left !== null) return { left };
-    if (signal !== null) throw new ShakeError(`shake: the program was ended by ${signal}`);
-    throw said === '' ? new ShakeError(`shake: the program ended with status ${status}`) : faultOf(said, text);
+    const passes = passesOf(options);
+    if (passes.length === 1) return runPass(passes[0], text, options);
+    let [current, result] = [text, undefined];
+    for (let [turn, still] = [0, 0]; still < passes.length && turn < passes.length * MOST_ROUNDS; turn += 1) {
+        const read = result?.code !== undefined;
+        const answer = await runPass(passes[turn % passes.length], current, read ? withoutFlags(options) : options);
+        still = answer.code === undefined || answer.code === current ? still + 1 : 0;
+        if (!read) result ??= answer;
+        if (answer.code !== undefined) [current, result] = [answer.code, answer];
+    }
+    return result;
+}
+
+/** Returns the fault of a text that was left though flags would replace something in it: `found` is what `flagsIn` returns. */
+function lostFlags(name, left, found) {
+    const names = found.map((flag) => flag.name).join(', ');
+    const advice = 'give the flag to the bundler instead (its own define), or set left: "warn"';
+    return new ShakeError(`${shownPlace(name, left)}: left as it is: ${left.reason}; so nothing replaces ${names} in it: ${advice}`, found[0]);
 }
 
 /** Returns a function that runs tasks, at most `count` of them at once. */
@@ -163,54 +68,72 @@ function limiter(count) {
     };
 }
 
-/** The chunks of one build, and what became of them. */
+// Why a module isn't given to the program, or null. `module` says that the bundler takes it for an ES module.
+function reasonToSkip(text, options, module) {
+    if (!module && !isModule(text)) return { reason: 'no ES module' };
+    const at = annotationIn(text);
+    // The output has no comments. Where a flag is read, it is the greater loss.
+    if (at === null || flagsIn(text, options).length > 0) return null;
+    return { reason: 'an annotation for the bundler (#__PURE__), which the output would not have', ...placeAt(text, at) };
+}
+
+// The code of a module, which is one by its words if the text is: bundlers take another file for a script or for CommonJS.
+function markedAs(text, code) {
+    return isModule(text) && !isModule(code) ? `${code}export {};\n` : code;
+}
+
+/** One build: simplifies its modules and chunks side by side. */
 class Shaker {
-    /** `script` says that chunks are scripts; then what they declare at the top stays, unless `keepTop` says otherwise. */
-    constructor(options = {}, { script = false } = {}) {
+    /** `keepTop` says whether what chunks declare at the top stays, where the option `keepTop` doesn't say it. */
+    constructor(options = {}, { keepTop = false } = {}) {
         checkOptions(options);
-        this.options = { ...options, keepTop: options.keepTop ?? script };
+        this.options = options;
+        this.chunkOptions = { ...options, keepTop: options.keepTop ?? keepTop };
         this.limit = limiter(os.availableParallelism());
-        this.report = { chunks: 0, simplified: 0, bytesBefore: 0, bytesAfter: 0, left: [] };
     }
 
-    /** Returns the simplified text of a chunk, or null where the chunk is left as it is. Throws as `simplify` does. */
+    // Adds the fault of lost flags to what `simplify` returned: throws it, or returns it as `warning`.
+    checked(name, text, result) {
+        if (result.left === undefined) return { code: withLicence(text, result.code) };
+        const found = flagsIn(text, this.options);
+        if (found.length === 0) return result;
+        const fault = lostFlags(name, result.left, found);
+        if (this.options.left !== 'warn') throw fault;
+        return { ...result, warning: fault };
+    }
+
+    /** Returns `{ left }` for a text that isn't simplified for a reason, with `warning` as `chunk` does. */
+    leave(name, text, reason) {
+        return this.checked(name, text, { left: { reason } });
+    }
+
+    /**
+     * Simplifies a chunk. Returns `{ code }`, or `{ left }` where the chunk stays as it is, with `warning` where flags are
+     * lost. Throws as `simplify` does, and where flags are lost and the option `left` doesn't say otherwise.
+     */
     async chunk(name, text) {
-        const { code, left } = await this.limit(() => simplify(text, this.options));
-        this.report.chunks += 1;
-        if (left !== undefined) {
-            this.report.left.push({ name, ...left });
-            return null;
+        return this.checked(name, text, await this.limit(() => simplify(text, this.chunkOptions)));
+    }
+
+    /**
+     * Simplifies a module, as `chunk` does. `module` says that the bundler takes it for an ES module; where it isn't so by
+     * its words either, it stays as it is. A text with a syntax error is left too: the bundler may read more than the program.
+     */
+    async module(name, text, { module = false } = {}) {
+        const skipped = reasonToSkip(text, this.options, module);
+        if (skipped !== null) return this.checked(name, text, { left: skipped });
+        try {
+            const { code, left } = await this.limit(() => simplify(text, this.options));
+            return this.checked(name, text, left === undefined ? { code: markedAs(text, code) } : { left });
+        } catch (fault) {
+            if (!(fault instanceof SyntaxFault)) throw fault;
+            const { reason, line, column } = fault;
+            return this.checked(name, text, { left: { reason, line, column } });
         }
-        this.report.simplified += 1;
-        this.report.bytesBefore += Buffer.byteLength(text);
-        this.report.bytesAfter += Buffer.byteLength(code);
-        return code;
-    }
-
-    /** Hands the report to the option `report`, or line by line to `log`. */
-    publish(log) {
-        this.report.left.sort((a, b) => (a.name < b.name ? -1 : a.name > b.name ? 1 : 0));
-        if (typeof this.options.report === 'function') this.options.report(this.report);
-        else if (this.options.report !== false) linesOf(this.report).forEach((line) => log(line));
     }
 }
 
-/** Returns a report as lines of text. Columns are counted from 1 here, as editors count them. */
-function linesOf(report) {
-    const { chunks, simplified, bytesBefore, bytesAfter, left } = report;
-    const less = bytesBefore - bytesAfter;
-    const bytes = less >= 0 ? `${less} of ${bytesBefore} bytes less` : `${-less} bytes more than ${bytesBefore}`;
-    const lines = [`shake: ${simplified} of ${chunks} chunks simplified, ${bytes}`];
-    for (const { name, line, column, reason } of left) {
-        const place = line === undefined ? '' : `:${line}:${column + 1}`;
-        lines.push(`shake: ${name}${place}: left as it is: ${reason}`);
-    }
-    return lines;
-}
-
-/** Returns the warning about the source map of a simplified chunk. */
-function mapWarning(name) {
-    return `shake: the source map of ${name} is dropped, since the program makes none`;
-}
-
-module.exports = { ShakeError, Shaker, checkOptions, commandOf, linesOf, mapWarning, placeOf, reasonOf, simplify, wordsOf };
+module.exports = {
+    PASSES, Report, ShakeError, Shaker, checkOptions, commandOf, flagsIn, isModule, licenceComments, limiter, linesOf, lostFlags, mapWarning, mapsWarning,
+    nearest, noteOf, passesOf, placeOf, reasonOf, shownPlace, simplify, suggestion, unitsOf, withLicence, wordsOf,
+};

@@ -6,8 +6,8 @@
 
 const fs = require('node:fs');
 
-const PASSES = ['simplify', 'expr', 'branch', 'dce', 'json', 'const', 'inline'];
-const SWITCHES = ['--keep-top', '--drop-imports'];
+const PASSES = ['simplify', 'optimize', 'expr', 'branch', 'dce', 'json', 'const', 'inline'];
+const SWITCHES = ['--keep-top', '--drop-imports', '--compact'];
 const VALUED = ['--retain', '--rounds', '--min-cost', '--define', '--env', '--typeof', '--const'];
 
 function understands([pass, ...words]) {
@@ -27,7 +27,7 @@ function refuse(status, said) {
 
 // The faults, each with the text that it is found by. `AT` stands for the offset.
 const FAULTS = [
-    [/@/, 'syntax at AT'],
+    [/@(?!__)/, 'syntax at AT'],
     [/\bclass\b/, 'out of core at AT: Class'],
     [/\b\d{17,}\b/, 'number range at AT'],
     [/TOO_DEEP/, 'too deep'],
@@ -41,6 +41,7 @@ if (!understands(words)) refuse(2, 'arguments');
 // A value that isn't read.
 for (const word of words) if (word.endsWith('=(')) refuse(1, `given ${word.slice(0, -2)}: syntax at 1`);
 const text = fs.readFileSync(0, 'utf8');
+if (text.includes('OLD')) refuse(2, 'arguments');
 if (text.includes('CRASH')) process.kill(process.pid, 'SIGKILL');
 for (const [pattern, said] of FAULTS) {
     const found = pattern.exec(text);

@@ -20,7 +20,16 @@ function lookAtDebianFolders() {
     Module._initPaths();
 }
 
+// Debian's webpack asks Debian's node for the folders of its packages; another node doesn't know of them.
+function suitDebianWebpack() {
+    const { variables } = process.config;
+    if (variables.node_relative_path !== undefined) return;
+    const known = { ...variables, node_prefix: '/usr', node_relative_path: 'share/nodejs:lib/nodejs' };
+    Object.defineProperty(process, 'config', { value: { ...process.config, variables: known }, configurable: true });
+}
+
 lookAtDebianFolders();
+suitDebianWebpack();
 
 /** Returns the module of a bundler, or null where it isn't installed or doesn't load. */
 function host(name) {
@@ -31,6 +40,21 @@ function host(name) {
         return found;
     } catch {
         return null;
+    }
+}
+
+/** Returns the folder of an installed package, or null. */
+function folderOf(name) {
+    const paths = (require.resolve.paths(name) ?? []).map((folder) => path.join(folder, name));
+    return paths.find((folder) => fs.existsSync(path.join(folder, 'package.json'))) ?? null;
+}
+
+/** Writes files into a folder, by their names. */
+function writeAll(folder, files) {
+    for (const [name, text] of Object.entries(files)) {
+        const file = path.join(folder, name);
+        fs.mkdirSync(path.dirname(file), { recursive: true });
+        fs.writeFileSync(file, text);
     }
 }
 
@@ -48,4 +72,4 @@ function runs(file) {
 
 const example = (name) => path.join(__dirname, '..', 'example', name);
 
-module.exports = { example, fake, host, program: real ?? fake, room, runs };
+module.exports = { example, fake, folderOf, host, program: real ?? fake, room, runs, writeAll };

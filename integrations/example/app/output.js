@@ -1,0 +1,8 @@
+export function write(text) {
+    console.log(text);
+}
+
+function writeTwice(text) {
+    write(text);
+    write(text);
+}

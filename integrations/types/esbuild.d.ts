@@ -1,0 +1,5 @@
+import type { Plugin } from 'esbuild';
+import type { Options } from './options';
+
+declare function zorikham(options?: Options): Plugin;
+export = zorikham;
