@@ -30,17 +30,19 @@ pub fn enclose(alloc: Global, text: &str) -> Result<Whole<'_>, WholeError> {
     }
     let outline = outline(alloc, text)?;
     let fresh = Fresh::new(alloc, rows(text, &outline))?;
-    let mut whole = Whole {
+    let mut shapes = Vec::new(alloc);
+    let core = if outline.units.is_empty() {
+        None
+    } else {
+        Some(enclosed(alloc, text, &outline, &fresh, &mut shapes)?)
+    };
+    Ok(Whole {
         text,
         outline,
         fresh,
-        shapes: Vec::new(alloc),
-        core: None,
-    };
-    if whole.has_units() {
-        whole.core = Some(whole.enclosed(alloc)?);
-    }
-    Ok(whole)
+        shapes,
+        core,
+    })
 }
 
 /// The rows of `$` in a text, and in the names of its units, whose escapes are resolved.
@@ -82,42 +84,51 @@ impl<'a> Whole<'a> {
 
     /// The text of a unit.
     pub(crate) fn text_of(&self, unit: Unit) -> &'a str {
-        self.text
-            .get(unit.start as usize..unit.end as usize)
-            .unwrap_or("")
+        text_of(self.text, unit)
     }
+}
 
-    /// The text with stand-ins, whose shapes are kept.
-    fn enclosed(&mut self, alloc: Global) -> Result<String, WholeError> {
-        let units = self.outline.units.as_slice();
-        let mut round = Surroundings::new(alloc, self.text, units)?;
-        let mut cuts = Vec::new(alloc);
-        for (number, unit) in units.iter().enumerate() {
-            let text = self.text_of(*unit);
-            if text.starts_with("#!") {
-                self.shapes.push(Shape::Spaces)?;
-                cuts.push(blanked(alloc, *unit)?)?;
-                continue;
-            }
-            let around = round.around(alloc, &self.outline, number, *unit)?;
-            let made = stand_in(
-                alloc,
-                &self.outline,
-                &self.fresh,
-                number,
-                *unit,
-                text,
-                &around,
-            )?;
-            self.shapes.push(made.shape)?;
-            let from = around.start;
-            let to = unit.end as usize;
-            let before = byte_before(self.text, from);
-            let put = apart(alloc, before, made.text, byte_at(self.text, to))?;
-            cuts.push(Cut { from, to, put })?;
+fn text_of(text: &str, unit: Unit) -> &str {
+    text.get(unit.start as usize..unit.end as usize)
+        .unwrap_or("")
+}
+
+/// A text with stand-ins, whose shapes are added to a list.
+fn enclosed(
+    alloc: Global,
+    text: &str,
+    outline: &Outline<'_>,
+    fresh: &Fresh,
+    shapes: &mut Vec<Shape>,
+) -> Result<String, WholeError> {
+    let mut round = Surroundings::new(alloc, text, outline.units.as_slice())?;
+    let mut cuts = Vec::new(alloc);
+    for (number, unit) in outline.units.iter().enumerate() {
+        let own = text_of(text, *unit);
+        if own.starts_with("#!") {
+            shapes.push(Shape::Spaces)?;
+            cuts.push(blanked(alloc, *unit)?)?;
+            continue;
         }
-        Ok(splice(alloc, self.text, cuts.as_slice())?)
+        let around = round.around(alloc, outline, number, *unit)?;
+        let made = stand_in(alloc, outline, fresh, number, *unit, own, &around)?;
+        shapes.push(made.shape)?;
+        cuts.push(placed(alloc, text, around.start, *unit, made.text)?)?;
     }
+    Ok(splice(alloc, text, cuts.as_slice())?)
+}
+
+/// A stand-in in the place of a unit, which begins here.
+fn placed(
+    alloc: Global,
+    text: &str,
+    from: usize,
+    unit: Unit,
+    stand_in: String,
+) -> Result<Cut, AllocError> {
+    let to = unit.end as usize;
+    let put = apart(alloc, byte_before(text, from), stand_in, byte_at(text, to))?;
+    Ok(Cut { from, to, put })
 }
 
 /// Spaces for a unit.

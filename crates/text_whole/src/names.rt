@@ -7,7 +7,6 @@ pub(crate) struct Rows {
     unit: usize,
     other: usize,
     value: usize,
-    alias: usize,
 }
 
 impl Rows {
@@ -16,7 +15,6 @@ impl Rows {
             unit: 0,
             other: 0,
             value: 0,
-            alias: 0,
         }
     }
 
@@ -40,7 +38,6 @@ impl Rows {
             b'k' => self.unit = self.unit.max(len),
             b'j' => self.other = self.other.max(len),
             b'v' => self.value = self.value.max(len),
-            b'n' => self.alias = self.alias.max(len),
             _ => {}
         }
     }
@@ -55,8 +52,6 @@ pub(crate) struct Fresh {
     pub(crate) other: String,
     /// the parameter of a function that writes
     pub(crate) value: String,
-    /// of names that have more than ASCII
-    pub(crate) alias: String,
 }
 
 /// A letter and more `$` than there are in a row.
@@ -75,55 +70,7 @@ impl Fresh {
             unit: prefix(alloc, 'k', rows.unit)?,
             other: prefix(alloc, 'j', rows.unit.max(rows.other))?,
             value: prefix(alloc, 'v', rows.value)?,
-            alias: prefix(alloc, 'n', rows.alias)?,
         })
-    }
-
-    /// Appends a name as core text can have it: one with more than ASCII is spelled by the digits of its bytes.
-    pub(crate) fn push_name(&self, out: &mut String, name: &str) -> Result<(), AllocError> {
-        if name.is_ascii() {
-            return out.push_str(name);
-        }
-        out.push_str(self.alias.as_str())?;
-        for byte in name.as_bytes() {
-            out.push(digit(*byte >> 4))?;
-            out.push(digit(*byte & 15))?;
-        }
-        Ok(())
-    }
-
-    /// The name that a word spells so.
-    pub(crate) fn spelled(&self, alloc: Global, word: &str) -> Result<Option<String>, AllocError> {
-        let Some(digits) = word.strip_prefix(self.alias.as_str()) else {
-            return Ok(None);
-        };
-        let mut bytes = Vec::new(alloc);
-        for pair in digits.as_bytes().chunks(2) {
-            let [high, low] = pair else {
-                return Ok(None);
-            };
-            bytes.push((value_of(*high) << 4) | value_of(*low))?;
-        }
-        match String::from_utf8(bytes) {
-            Ok(name) => Ok(Some(name)),
-            Err(_) => Ok(None),
-        }
-    }
-}
-
-fn digit(value: u8) -> char {
-    match value {
-        0..=9 => (b'0' + value) as char,
-        10..=15 => (b'a' + (value - 10)) as char,
-        _ => '0',
-    }
-}
-
-fn value_of(digit: u8) -> u8 {
-    match digit {
-        b'0'..=b'9' => digit - b'0',
-        b'a'..=b'f' => digit - b'a' + 10,
-        _ => 0,
     }
 }
 

@@ -177,7 +177,7 @@ impl<'a> Printed<'a> {
     }
 
     /// Whether the call at a place begins with functions that read these names, and which token ends it.
-    pub(crate) fn call_end(&self, place: usize, gets: &[String]) -> Option<usize> {
+    pub(crate) fn call_end(&self, place: usize, gets: &[&str]) -> Option<usize> {
         let close = self.closing(next(place))?;
         let mut at = next(next(place));
         let mut is_first = true;
@@ -191,7 +191,7 @@ impl<'a> Printed<'a> {
             is_first = false;
             let read = at.saturating_add(3);
             let name_at = self.behind(read, &[Kind::LeftParen, Kind::RightParen, Kind::Arrow])?;
-            if name_at != at || self.word(read) != name.as_str() {
+            if name_at != at || self.word(read) != *name {
                 return None;
             }
             at = next(read);
@@ -359,7 +359,7 @@ impl<'a> Printed<'a> {
             }
             last = self.jump_end(next(last))?;
             match self.test_end(next(last)) {
-                Some(end) => last = end,
+                Some(end) => last = next(end),
                 None => break,
             }
         }

@@ -4,7 +4,7 @@ use crate::error::WholeError;
 use crate::names::number_behind;
 use crate::places::{Place, Printed};
 use crate::splices::{Cut, splice};
-use crate::stand_in::{Exported, Shape, sorted};
+use crate::stand_in::{Exported, Shape, declared, sorted};
 use crate::words::{apart, begins_with, byte_at, byte_before};
 use std::alloc::{AllocError, Global};
 use text_lexer::Kind;
@@ -22,7 +22,7 @@ struct Restorer<'b, 'a> {
     /// the first token behind the last cut
     next: usize,
     /// the unit that is exported by `export { a as default };`, and the name
-    default: Option<(usize, String)>,
+    default: Option<(usize, &'b str)>,
     /// whether that `export` was met
     exports_default: bool,
 }
@@ -56,18 +56,15 @@ pub(crate) fn restored(
 
 impl<'a> Whole<'a> {
     /// The unit that is exported as `default` apart from its declaration, and the name that it has in the core text.
-    fn default_name(&self, alloc: Global) -> Result<Option<(usize, String)>, AllocError> {
+    fn default_name(&self, alloc: Global) -> Result<Option<(usize, &str)>, AllocError> {
         for (number, shape) in self.shapes.iter().enumerate() {
             if *shape != Shape::Values(Exported::Default) {
                 continue;
             }
             if let Some(unit) = self.outline.units.get(number)
-                && let Some(first) = self.outline.declared(*unit).first()
+                && let Some(first) = declared(alloc, &self.outline, *unit)?.first()
             {
-                let mut name = String::new(alloc);
-                self.fresh
-                    .push_name(&mut name, self.outline.text(first.name))?;
-                return Ok(Some((number, name)));
+                return Ok(Some((number, self.outline.text(first.name))));
             }
         }
         Ok(None)
@@ -86,17 +83,6 @@ impl<'a> Whole<'a> {
         out.push('\n')?;
         out.push_str(rest.as_str())?;
         Ok(out)
-    }
-
-    /// The names that a unit's stand-in reads, as the core text has them.
-    fn gets(&self, alloc: Global, unit: Unit) -> Result<Vec<String>, AllocError> {
-        let mut gets = Vec::new(alloc);
-        for name in &sorted(alloc, &self.outline, self.outline.mentions(unit))? {
-            let mut spelled = String::new(alloc);
-            self.fresh.push_name(&mut spelled, *name)?;
-            gets.push(spelled)?;
-        }
-        Ok(gets)
     }
 }
 
@@ -147,13 +133,6 @@ impl<'b, 'a> Restorer<'b, 'a> {
         }
         if let Some(number) = number_behind(word, fresh.other.as_str()) {
             return self.pass_left_over(place, number);
-        }
-        if let Some(name) = fresh.spelled(self.alloc, word)? {
-            let here = Place {
-                first: place,
-                last: place,
-            };
-            return self.put(here, name, 0);
         }
         Ok(())
     }
@@ -217,7 +196,7 @@ impl<'b, 'a> Restorer<'b, 'a> {
             return Ok(());
         };
         let number = *number;
-        if let Some(place) = self.printed.default_export(place, name.as_str()) {
+        if let Some(place) = self.printed.default_export(place, *name) {
             self.exports_default = true;
             return self.put(place, String::new(self.alloc), number);
         }
@@ -247,7 +226,8 @@ impl<'b, 'a> Restorer<'b, 'a> {
 
     fn pass_unit(&mut self, place: usize, number: usize) -> Result<(), WholeError> {
         let unit = self.meet(number)?;
-        let gets = self.whole.gets(self.alloc, unit)?;
+        let outline = &self.whole.outline;
+        let gets = sorted(self.alloc, outline, outline.mentions(unit))?;
         let Some(last) = self.printed.call_end(place, gets.as_slice()) else {
             return Err(self.lost(number));
         };

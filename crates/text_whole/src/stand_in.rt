@@ -49,7 +49,12 @@ pub(crate) struct StandIn {
     pub(crate) text: String,
 }
 
-/// Names, sorted, each once.
+/// Whether core text can have a name: one past ASCII stands in units alone.
+fn is_core(name: &str) -> bool {
+    name.is_ascii()
+}
+
+/// The names that core text can have, sorted, each once.
 pub(crate) fn sorted<'b>(
     alloc: Global,
     outline: &'b Outline<'_>,
@@ -57,11 +62,29 @@ pub(crate) fn sorted<'b>(
 ) -> Result<Vec<&'b str>, AllocError> {
     let mut texts: Vec<&str> = Vec::new(alloc);
     for name in names {
-        texts.push(outline.text(*name))?;
+        let text = outline.text(*name);
+        if is_core(text) {
+            texts.push(text)?;
+        }
     }
     texts.sort()?;
     texts.dedup();
     Ok(texts)
+}
+
+/// What a unit declares, by names that core text can have.
+pub(crate) fn declared(
+    alloc: Global,
+    outline: &Outline<'_>,
+    unit: Unit,
+) -> Result<Vec<Declaration>, AllocError> {
+    let mut kept = Vec::new(alloc);
+    for declaration in outline.declared(unit) {
+        if is_core(outline.text(declaration.name)) {
+            kept.push(*declaration)?;
+        }
+    }
+    Ok(kept)
 }
 
 /// A text in the making, for one unit.
@@ -72,6 +95,7 @@ struct Writer<'b, 'a> {
     fresh: &'b Fresh,
     unit: Unit,
     number: usize,
+    declared: &'b [Declaration],
     out: String,
 }
 
@@ -85,14 +109,6 @@ impl<'b, 'a> Writer<'b, 'a> {
         self.out.push_str(number.as_str())
     }
 
-    fn push_name(&mut self, name: &str) -> Result<(), AllocError> {
-        self.fresh.push_name(&mut self.out, name)
-    }
-
-    fn declared(&self) -> &'b [Declaration] {
-        self.outline.declared(self.unit)
-    }
-
     /// `k(() => a, v => a = v)`
     fn push_call(&mut self) -> Result<(), AllocError> {
         self.push(self.fresh.unit.as_str())?;
@@ -103,7 +119,7 @@ impl<'b, 'a> Writer<'b, 'a> {
             self.push_comma(is_first)?;
             is_first = false;
             self.push("() => ")?;
-            self.push_name(*name)?;
+            self.push(*name)?;
         }
         self.push_sets(is_first)?;
         self.push(")")
@@ -118,7 +134,7 @@ impl<'b, 'a> Writer<'b, 'a> {
             is_first = false;
             self.push_set(*name)?;
         }
-        for declaration in self.declared() {
+        for declaration in self.declared {
             let name = self.outline.text(declaration.name);
             let is_set = matches!(
                 declaration.declared_as,
@@ -141,7 +157,7 @@ impl<'b, 'a> Writer<'b, 'a> {
     fn push_set(&mut self, name: &str) -> Result<(), AllocError> {
         self.push(self.fresh.value.as_str())?;
         self.push(" => ")?;
-        self.push_name(name)?;
+        self.push(name)?;
         self.push(" = ")?;
         self.push(self.fresh.value.as_str())
     }
@@ -156,10 +172,10 @@ impl<'b, 'a> Writer<'b, 'a> {
     /// The names that are declared, with commas between them.
     fn push_declared(&mut self) -> Result<(), AllocError> {
         let mut is_first = true;
-        for declaration in self.declared() {
+        for declaration in self.declared {
             self.push_comma(is_first)?;
             is_first = false;
-            self.push_name(self.outline.text(declaration.name))?;
+            self.push(self.outline.text(declaration.name))?;
         }
         Ok(())
     }
@@ -172,9 +188,9 @@ impl<'b, 'a> Writer<'b, 'a> {
             _ => "let ",
         })?;
         let mut is_first = true;
-        for declaration in self.declared() {
+        for declaration in self.declared {
             self.push_comma(is_first)?;
-            self.push_name(self.outline.text(declaration.name))?;
+            self.push(self.outline.text(declaration.name))?;
             self.push(" = ")?;
             if is_first {
                 self.push_call()?;
@@ -189,7 +205,7 @@ impl<'b, 'a> Writer<'b, 'a> {
     /// `function f() { return k(); }`
     fn push_function(&mut self, name: &str) -> Result<(), AllocError> {
         self.push("function ")?;
-        self.push_name(name)?;
+        self.push(name)?;
         self.push("() { return ")?;
         self.push_call()?;
         self.push("; }")
@@ -236,7 +252,7 @@ impl<'b, 'a> Writer<'b, 'a> {
     /// `import { a } from "k";`
     fn import(&mut self) -> Result<Shape, AllocError> {
         self.push("import ")?;
-        if !self.declared().is_empty() {
+        if !self.declared.is_empty() {
             self.push("{ ")?;
             self.push_declared()?;
             self.push(" } from ")?;
@@ -257,7 +273,7 @@ impl<'b, 'a> Writer<'b, 'a> {
     }
 
     fn is_import(&self, text: &str) -> bool {
-        match self.declared() {
+        match self.declared {
             [] => self.unit.source.1 != 0 || begins_with(text, "import"),
             [first, ..] => first.declared_as == DeclaredAs::Import,
         }
@@ -271,7 +287,7 @@ impl<'b, 'a> Writer<'b, 'a> {
             Some(rest) if self.exports_default() => behind(rest, "default"),
             _ => None,
         };
-        match self.declared() {
+        match self.declared {
             [first] if first.declared_as == DeclaredAs::Function => self.exported_function(*first),
             [first, ..] => self.exported_values(*first, value.is_some()),
             [] => match value {
@@ -306,7 +322,7 @@ impl<'b, 'a> Writer<'b, 'a> {
         }
         self.push_values(first)?;
         self.push(" export { ")?;
-        self.push_name(self.outline.text(first.name))?;
+        self.push(self.outline.text(first.name))?;
         self.push(" as default };")?;
         Ok(Shape::Values(Exported::Default))
     }
@@ -330,7 +346,7 @@ impl<'b, 'a> Writer<'b, 'a> {
     }
 
     fn statement(&mut self, jumps: &[Jump]) -> Result<Shape, WholeError> {
-        let declared = self.declared();
+        let declared = self.declared;
         match declared {
             [] => {}
             [first] if first.declared_as == DeclaredAs::Function => {
@@ -365,7 +381,7 @@ impl<'b, 'a> Writer<'b, 'a> {
     /// `{ var a; k(); }`, or `{ var a; if (k()) return j(); }`
     fn block(&mut self, jumps: &[Jump]) -> Result<Shape, AllocError> {
         self.push("{ ")?;
-        if !self.declared().is_empty() {
+        if !self.declared.is_empty() {
             self.push("var ")?;
             self.push_declared()?;
             self.push("; ")?;
@@ -409,7 +425,7 @@ impl<'b, 'a> Writer<'b, 'a> {
         }
         if let Some(label) = jump.label {
             self.push(" ")?;
-            self.push_name(self.outline.text(label))?;
+            self.push(self.outline.text(label))?;
         }
         self.push(";")
     }
@@ -446,12 +462,14 @@ pub(crate) fn stand_in(
     if names_its_function(outline, unit) {
         return Err(WholeError::NoStandIn { at: unit.start });
     }
+    let declared = declared(alloc, outline, unit)?;
     let mut writer = Writer {
         alloc,
         outline,
         fresh,
         unit,
         number,
+        declared: declared.as_slice(),
         out: String::new(alloc),
     };
     let shape = match unit.sort {
