@@ -20,16 +20,17 @@ pub struct Whole<'a> {
     core: Option<String>,
 }
 
-/// The module of a text (ECMA-262, 16.2), with a stand-in for each unit. A `#!` line has spaces in its place.
+/// The module of a text (ECMA-262, 16.2), with a stand-in for each unit. A `#!` line has spaces in its place. Where `pinned`, a
+/// stand-in writes each name that its unit mentions, so that no pass substitutes a value for one of them.
 ///
 /// Refused are a text that is no module (`Outline`), one of 2^31 bytes or more, or whose core text is as long (`TooLong`), and one
 /// with a unit that no core text can stand for (`NoStandIn`).
-pub fn enclose(alloc: Global, text: &str) -> Result<Whole<'_>, WholeError> {
+pub fn enclose(alloc: Global, text: &str, pinned: bool) -> Result<Whole<'_>, WholeError> {
     if text.len() >= 0x8000_0000 {
         return Err(WholeError::TooLong);
     }
     let outline = outline(alloc, text)?;
-    let fresh = Fresh::new(alloc, rows(text, &outline))?;
+    let fresh = Fresh::new(alloc, rows(text, &outline), pinned)?;
     let mut shapes = Vec::new(alloc);
     let core = if outline.units.is_empty() {
         None
@@ -72,6 +73,18 @@ impl<'a> Whole<'a> {
     /// Whether the core text has stand-ins, so that what is made of it has to be restored.
     pub fn has_units(&self) -> bool {
         !self.outline.units.is_empty()
+    }
+
+    /// Where the first unit begins that mentions a name, in bytes of the text.
+    pub fn mention_of(&self, name: &str) -> Option<u32> {
+        for unit in &self.outline.units {
+            for mention in self.outline.mentions(*unit) {
+                if self.outline.text(*mention) == name {
+                    return Some(unit.start);
+                }
+            }
+        }
+        None
     }
 
     /// A text that was printed of a changed core text, with the units' own texts in the place of their stand-ins, and the `#!` line

@@ -3,6 +3,7 @@ ghost use Rattle.std.specs.Prelude.{◌≡◌};
 ghost use Rattle.text_whole.specs.declared.error.WholeError.TheVariants.{OutOfMemory};
 
 use std::alloc::{AllocError, AllocFailed};
+use std::fmt;
 use text_outline::Fault;
 
 /// Why a module has no core text, or a printed text is no module.
@@ -19,6 +20,27 @@ pub enum WholeError {
     Lost { at: u32 },
     OutOfMemory,
 }
+
+impl fmt::Display for WholeError {
+    fn fmt<W: fmt::Write>(&self, f: &mut fmt::Formatter<W>) -> fmt::Result {
+        match self {
+            WholeError::Outline(Fault::Syntax { at }) => write!(f, "syntax at {at}"),
+            WholeError::Outline(Fault::OutOfCore { at, what }) => {
+                write!(f, "out of core at {at}: {what}")
+            }
+            WholeError::Outline(Fault::NumberRange { at }) => write!(f, "number range at {at}"),
+            WholeError::Outline(Fault::TooDeep) => write!(f, "too deep"),
+            WholeError::Outline(Fault::OutOfMemory) | WholeError::OutOfMemory => {
+                write!(f, "out of memory")
+            }
+            WholeError::TooLong => write!(f, "too long"),
+            WholeError::NoStandIn { at } => write!(f, "kept text at {at} can't be enclosed"),
+            WholeError::Lost { at } => write!(f, "kept text at {at} has no place"),
+        }
+    }
+}
+
+impl std::error::Error for WholeError {}
 
 impl From<AllocError> for WholeError {
     ghost from_gives = { λ _ e. e ≡ OutOfMemory };

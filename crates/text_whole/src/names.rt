@@ -52,6 +52,8 @@ pub(crate) struct Fresh {
     pub(crate) other: String,
     /// the parameter of a function that writes
     pub(crate) value: String,
+    /// whether a unit is shown to write each name that it mentions
+    pub(crate) pinned: bool,
 }
 
 /// A letter and more `$` than there are in a row.
@@ -65,11 +67,12 @@ fn prefix(alloc: Global, letter: char, row: usize) -> Result<String, AllocError>
 }
 
 impl Fresh {
-    pub(crate) fn new(alloc: Global, rows: Rows) -> Result<Fresh, AllocError> {
+    pub(crate) fn new(alloc: Global, rows: Rows, pinned: bool) -> Result<Fresh, AllocError> {
         Ok(Fresh {
             unit: prefix(alloc, 'k', rows.unit)?,
             other: prefix(alloc, 'j', rows.unit.max(rows.other))?,
             value: prefix(alloc, 'v', rows.value)?,
+            pinned,
         })
     }
 }

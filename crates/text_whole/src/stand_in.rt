@@ -109,6 +109,15 @@ impl<'b, 'a> Writer<'b, 'a> {
         self.out.push_str(number.as_str())
     }
 
+    /// The names that the unit is shown to write.
+    fn written(&self) -> &'b [u32] {
+        if self.fresh.pinned {
+            self.outline.mentions(self.unit)
+        } else {
+            self.outline.writes(self.unit)
+        }
+    }
+
     /// `k(() => a, v => a = v)`
     fn push_call(&mut self) -> Result<(), AllocError> {
         self.push(self.fresh.unit.as_str())?;
@@ -128,7 +137,10 @@ impl<'b, 'a> Writer<'b, 'a> {
     fn push_sets(&mut self, is_first: bool) -> Result<(), AllocError> {
         let mut is_first = is_first;
         let mut written = HashSet::new(self.alloc);
-        for name in &sorted(self.alloc, self.outline, self.outline.writes(self.unit))? {
+        for name in &sorted(self.alloc, self.outline, self.written())? {
+            if *name == "this" {
+                continue;
+            }
             written.insert(*name)?;
             self.push_comma(is_first)?;
             is_first = false;

@@ -26,7 +26,7 @@ fn main(rt: HostRuntime) -> io::Result<()> {
     let alloc = rt.alloc();
     let text = read_text(alloc, &mut rt.stdin())?;
     let mut out = BufWriter::new(alloc, rt.stdout())?;
-    match enclose(alloc, text.as_str()) {
+    match enclose(alloc, text.as_str(), false) {
         Ok(whole) => out.write_all(whole.text().as_bytes())?,
         Err(WholeError::Outline(Fault::Syntax { at })) => {
             let line = format!(in alloc; "syntax at {}\n", at)?;
