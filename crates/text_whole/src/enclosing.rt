@@ -128,7 +128,10 @@ fn enclosed(
         shapes.push(made.shape)?;
         cuts.push(placed(alloc, text, around.start, *unit, made.text)?)?;
     }
-    Ok(splice(alloc, text, cuts.as_slice())?)
+    match splice(alloc, text, cuts.as_slice())? {
+        Some(core) => Ok(core),
+        None => Err(WholeError::NoStandIn { at: 0 }),
+    }
 }
 
 /// A stand-in in the place of a unit, which begins here.

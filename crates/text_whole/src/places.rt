@@ -282,12 +282,14 @@ impl<'a> Printed<'a> {
             } else {
                 declared
             }
-        } else if self.begins_statement(call.first) {
-            call.first
         } else {
-            return None;
+            call.first
         };
-        self.to_tail(first, call.last)
+        if self.begins_statement(first) {
+            self.to_tail(first, call.last)
+        } else {
+            None
+        }
     }
 
     /// Where the declaration begins whose first name has the value at a place.

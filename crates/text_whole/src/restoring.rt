@@ -50,8 +50,10 @@ pub(crate) fn restored(
         restorer.pass(place)?;
     }
     restorer.check_default()?;
-    let rest = splice(alloc, printed, restorer.cuts.as_slice())?;
-    whole.with_front(alloc, rest)
+    match splice(alloc, printed, restorer.cuts.as_slice())? {
+        Some(rest) => whole.with_front(alloc, rest),
+        None => Err(WholeError::Lost { at: 0 }),
+    }
 }
 
 impl<'a> Whole<'a> {

@@ -1,4 +1,4 @@
-//! Prints the core text of a module on standard input, with stand-ins for what isn't core.
+//! A program that prints the core text of a module, with stand-ins for what isn't core.
 #![tactic(auto)]
 
 use std::alloc::Global;
