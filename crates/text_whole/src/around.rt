@@ -12,7 +12,7 @@ const BLANK: &str = " 0 ";
 #[derive(Drop)]
 pub(crate) struct Around {
     /// where its place begins: in front of the labels that it alone jumps to
-    pub(crate) start: usize,
+    pub(crate) start: u32,
     /// the jumps to other places
     pub(crate) jumps: Vec<Jump>,
     pub(crate) is_behind_new: bool,
@@ -113,11 +113,11 @@ impl Surroundings {
     }
 
     /// How far in front of a unit's place a token begins, by the token that stands for the unit.
-    fn distance(&self, from: usize, unit: usize) -> usize {
+    fn distance(&self, from: usize, unit: usize) -> u32 {
         match (self.tokens.get(from), self.tokens.get(unit)) {
             (Some(from), Some(unit)) => {
                 // the unit's token has a space in front of it
-                unit.start.saturating_sub(from.start.saturating_add(1)) as usize
+                unit.start.saturating_sub(from.start.saturating_add(1))
             }
             _ => 0,
         }
@@ -132,10 +132,9 @@ impl Surroundings {
         unit: Unit,
     ) -> Result<Around, AllocError> {
         let jumps = outline.jumps(unit);
-        let start = unit.start as usize;
         let Some(place) = self.token_of(number) else {
             return Ok(Around {
-                start,
+                start: unit.start,
                 jumps: distinct(alloc, outline, jumps, &HashMap::new(alloc))?,
                 is_behind_new: false,
                 is_called: false,
@@ -145,7 +144,7 @@ impl Surroundings {
         let mut labels = labels_of(alloc, outline, jumps)?;
         let front = self.front(place, &mut labels);
         Ok(Around {
-            start: start.saturating_sub(self.distance(front, place)),
+            start: unit.start.saturating_sub(self.distance(front, place)),
             jumps: distinct(alloc, outline, jumps, &labels)?,
             is_behind_new: self.kind(place.checked_sub(1)) == Kind::New,
             is_called: self.is_called(place),

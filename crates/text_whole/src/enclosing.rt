@@ -4,7 +4,7 @@ use crate::error::WholeError;
 use crate::names::{Fresh, Rows};
 use crate::restoring::restored;
 use crate::splices::{Cut, splice};
-use crate::stand_in::{Shape, stand_in};
+use crate::stand_in::{Enclosed, Shape, stand_in};
 use crate::words::{apart, byte_at, byte_before};
 use std::alloc::{AllocError, Global};
 use text_outline::{Outline, Unit, outline};
@@ -16,7 +16,7 @@ pub struct Whole<'a> {
     pub(crate) outline: Outline<'a>,
     pub(crate) fresh: Fresh,
     /// of each unit
-    pub(crate) shapes: Vec<Shape>,
+    pub(crate) enclosed: Vec<Enclosed>,
     core: Option<String>,
 }
 
@@ -31,17 +31,17 @@ pub fn enclose(alloc: Global, text: &str, pinned: bool) -> Result<Whole<'_>, Who
     }
     let outline = outline(alloc, text)?;
     let fresh = Fresh::new(alloc, rows(text, &outline), pinned)?;
-    let mut shapes = Vec::new(alloc);
+    let mut units = Vec::new(alloc);
     let core = if outline.units.is_empty() {
         None
     } else {
-        Some(enclosed(alloc, text, &outline, &fresh, &mut shapes)?)
+        Some(core_text(alloc, text, &outline, &fresh, &mut units)?)
     };
     Ok(Whole {
         text,
         outline,
         fresh,
-        shapes,
+        enclosed: units,
         core,
     })
 }
@@ -106,26 +106,32 @@ fn text_of(text: &str, unit: Unit) -> &str {
         .unwrap_or("")
 }
 
-/// A text with stand-ins, whose shapes are added to a list.
-fn enclosed(
+/// A text with stand-ins for its units, of which what is known is added to a list.
+fn core_text(
     alloc: Global,
     text: &str,
     outline: &Outline<'_>,
     fresh: &Fresh,
-    shapes: &mut Vec<Shape>,
+    units: &mut Vec<Enclosed>,
 ) -> Result<String, WholeError> {
     let mut round = Surroundings::new(alloc, text, outline.units.as_slice())?;
     let mut cuts = Vec::new(alloc);
     for (number, unit) in outline.units.iter().enumerate() {
         let own = text_of(text, *unit);
         if own.starts_with("#!") {
-            shapes.push(Shape::Spaces)?;
+            units.push(Enclosed {
+                shape: Shape::Spaces,
+                start: unit.start,
+            })?;
             cuts.push(blanked(alloc, *unit)?)?;
             continue;
         }
         let around = round.around(alloc, outline, number, *unit)?;
         let made = stand_in(alloc, outline, fresh, number, *unit, own, &around)?;
-        shapes.push(made.shape)?;
+        units.push(Enclosed {
+            shape: made.shape,
+            start: around.start,
+        })?;
         cuts.push(placed(alloc, text, around.start, *unit, made.text)?)?;
     }
     match splice(alloc, text, cuts.as_slice())? {
@@ -134,14 +140,15 @@ fn enclosed(
     }
 }
 
-/// A stand-in in the place of a unit, which begins here.
+/// A stand-in in the place of a unit, with what is left out in front of it from here on.
 fn placed(
     alloc: Global,
     text: &str,
-    from: usize,
+    start: u32,
     unit: Unit,
     stand_in: String,
 ) -> Result<Cut, AllocError> {
+    let from = start as usize;
     let to = unit.end as usize;
     let put = apart(alloc, byte_before(text, from), stand_in, byte_at(text, to))?;
     Ok(Cut { from, to, put })

@@ -41,7 +41,7 @@ pub(crate) fn restored(
         whole,
         printed: Printed::new(alloc, printed, whole.fresh.other.as_str())?,
         cuts: Vec::new(alloc),
-        seen: vec![in alloc; false; whole.shapes.len()]?,
+        seen: vec![in alloc; false; whole.enclosed.len()]?,
         next: 0,
         default: whole.default_name(alloc)?,
         exports_default: false,
@@ -59,8 +59,8 @@ pub(crate) fn restored(
 impl<'a> Whole<'a> {
     /// The unit that is exported as `default` apart from its declaration, and the name that it has in the core text.
     fn default_name(&self, alloc: Global) -> Result<Option<(usize, &str)>, AllocError> {
-        for (number, shape) in self.shapes.iter().enumerate() {
-            if *shape != Shape::Values(Exported::Default) {
+        for (number, enclosed) in self.enclosed.iter().enumerate() {
+            if enclosed.shape != Shape::Values(Exported::Default) {
                 continue;
             }
             if let Some(unit) = self.outline.units.get(number)
@@ -74,12 +74,13 @@ impl<'a> Whole<'a> {
 
     /// A text behind the `#!` line, where there is one.
     fn with_front(&self, alloc: Global, rest: String) -> Result<String, WholeError> {
-        let Some(Shape::Spaces) = self.shapes.first() else {
-            return Ok(rest);
-        };
         let Some(unit) = self.outline.units.first() else {
             return Ok(rest);
         };
+        match self.enclosed.first() {
+            Some(first) if first.shape == Shape::Spaces => {}
+            _ => return Ok(rest),
+        }
         let mut out = String::new(alloc);
         out.push_str(self.text_of(*unit))?;
         out.push('\n')?;
@@ -158,14 +159,17 @@ impl<'b, 'a> Restorer<'b, 'a> {
         Ok(())
     }
 
-    /// Notes that a unit is met, which is so once.
-    fn meet(&mut self, number: usize) -> Result<Unit, WholeError> {
+    /// Notes that a unit is met, which is so once. It begins where the text does that is left out.
+    fn meet(&mut self, number: usize) -> Result<(Shape, Unit), WholeError> {
         if let Some(is_seen) = self.seen.get_mut(number)
             && !*is_seen
             && let Some(unit) = self.whole.outline.units.get(number)
+            && let Some(enclosed) = self.whole.enclosed.get(number)
         {
             *is_seen = true;
-            return Ok(*unit);
+            let mut unit = *unit;
+            unit.start = enclosed.start;
+            return Ok((enclosed.shape, unit));
         }
         Err(self.lost(number))
     }
@@ -183,7 +187,7 @@ impl<'b, 'a> Restorer<'b, 'a> {
         if !is_source {
             return Ok(());
         }
-        let unit = self.meet(number)?;
+        let (_, unit) = self.meet(number)?;
         match self.printed.import(place) {
             Some(place) => {
                 let text = self.statement_text(unit)?;
@@ -227,17 +231,13 @@ impl<'b, 'a> Restorer<'b, 'a> {
     }
 
     fn pass_unit(&mut self, place: usize, number: usize) -> Result<(), WholeError> {
-        let unit = self.meet(number)?;
+        let (shape, unit) = self.meet(number)?;
         let outline = &self.whole.outline;
         let gets = sorted(self.alloc, outline, outline.mentions(unit))?;
         let Some(last) = self.printed.call_end(place, gets.as_slice()) else {
             return Err(self.lost(number));
         };
         let call = Place { first: place, last };
-        let shape = match self.whole.shapes.get(number) {
-            Some(shape) => *shape,
-            None => return Err(self.lost(number)),
-        };
         let Some(place) = self.place_of(shape, call) else {
             return Err(self.lost(number));
         };

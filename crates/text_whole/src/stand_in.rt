@@ -42,6 +42,14 @@ pub(crate) enum Shape {
     Jumps,
 }
 
+/// What is known of a unit that is enclosed.
+#[derive(Clone, Copy, Debug)]
+pub(crate) struct Enclosed {
+    pub(crate) shape: Shape,
+    /// where the text begins that is left out: with the labels in front that the unit alone jumps to
+    pub(crate) start: u32,
+}
+
 /// What stands for a unit.
 #[derive(Drop)]
 pub(crate) struct StandIn {
