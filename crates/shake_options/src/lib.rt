@@ -7,4 +7,4 @@ mod options;
 
 pub use flags::{Flag, flags_of};
 pub use notice::Notice;
-pub use options::{Options, PassName, retained};
+pub use options::{Options, PassName, retained, takes_operand};

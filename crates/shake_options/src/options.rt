@@ -147,8 +147,8 @@ pub fn retained(alloc: Global, args: &[String]) -> Result<Vec<String>, AllocErro
     Ok(texts)
 }
 
-/// Whether the next word belongs to an option.
-pub(crate) fn takes_operand(word: &str) -> bool
+/// Whether a word is an option whose operand is the next word.
+pub fn takes_operand(word: &str) -> bool
     ensures { result ≡ takes_operand word.now }
 {
     matches!(

@@ -11,5 +11,6 @@ mod work;
 
 pub use fault::Fault;
 pub use flagged::run_pass;
+pub use input::read_text;
 pub use notices::inform;
 pub use work::{run, tell};
