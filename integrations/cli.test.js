@@ -264,7 +264,7 @@ test('help and version', (t) => {
     for (const word of ['--help', '-h']) {
         const { status, stdout, stderr } = run(folder, [word]);
         assert.deepEqual([status, stderr], [0, '']);
-        for (const option of ['--passes', '--outdir', '--keep-top', '--retain', '--drop-imports', '--compact', '--rounds', '--min-cost', '--define', '--env', '--typeof', '--const', '--left', '--report', '--json']) {
+        for (const option of ['--passes', '--outdir', '--keep-top', '--retain', '--drop-imports', '--verbatim', '--compact', '--rounds', '--min-cost', '--define', '--env', '--typeof', '--const', '--left', '--report', '--json']) {
             assert.ok(stdout.includes(option), option);
         }
     }
@@ -278,7 +278,7 @@ test('each option gets to the program by its name', (t) => {
     const rows = [
         [[], 'simplify|'],
         [['--passes', 'dce'], 'dce|'],
-        [['--keep-top', '--drop-imports', '--compact'], 'simplify|--keep-top|--drop-imports|--compact|'],
+        [['--keep-top', '--drop-imports', '--compact', '--verbatim'], 'simplify|--keep-top|--drop-imports|--compact|--verbatim|'],
         [['--passes', 'optimize'], 'optimize|'],
         [['--retain', 'a', '--retain=b'], 'simplify|--retain|a|--retain|b|'],
         [['--rounds', '3', '--min-cost=0'], 'simplify|--rounds|3|--min-cost|0|'],

@@ -13,12 +13,16 @@ const CHAIN = /^[\p{ID_Start}$_][\p{ID_Continue}$]*(?:\.[\p{ID_Start}$_][\p{ID_C
 
 // Lines about texts that the program doesn't simplify, though nothing is wrong with them.
 const OUTSIDE = /^(out of core|number range)(?: at (\d+))(?:: (\w+))?$|^too deep$|^too long$|^captured .+$/;
+// Lines about a kept part of a text: a pass left no place for it, or it can't be shown to a pass.
+const KEPT = /^kept text at (\d+) (has no place|can't be enclosed)$/;
 
 /**
  * Returns why a text is left as it is, by the line that the program wrote: `{ reason }`, with `line` and `column` where
  * the line has an offset. Null for any other line.
  */
 function reasonOf(said, text) {
+    const kept = KEPT.exec(said);
+    if (kept !== null) return { reason: `what is kept ${kept[2]}`, ...placeOf(text, Number(kept[1])) };
     const found = OUTSIDE.exec(said);
     if (found === null) return null;
     const [, kind, offset, construct] = found;
@@ -66,10 +70,15 @@ const OF_FLAGS = [
     [/^re-exported (.*)$/s, ([, name]) => `const: ${name} is imported from a module of const and exported again`],
 ];
 
+// A flag for a name that a kept part of the text mentions.
+const MENTIONED = /^kept text at (\d+) mentions (.*)$/s;
+
 /** Returns the fault that the program's line stands for, of a text and some options. */
 function faultOf(said, text, options) {
     const found = /^syntax at (\d+)$/.exec(said);
     if (found !== null) return new SyntaxFault(`syntax: ${unexpected(text, Number(found[1]))}`, placeOf(text, Number(found[1])));
+    const mention = MENTIONED.exec(said);
+    if (mention !== null) return new ShakeError(`what is kept as it is written mentions ${mention[2]}, and flags replace nothing in it`, placeOf(text, Number(mention[1])));
     if (said === 'arguments') return new ShakeError('the program does not know a pass or an option that was given: it is of another version than the plugin');
     for (const [pattern, message] of OF_FLAGS) {
         const parts = pattern.exec(said);

@@ -80,6 +80,7 @@ const CHECKS = {
     rounds: isCount,
     minCost: isCount,
     compact: isFlag,
+    verbatim: isFlag,
     define: given(JAVASCRIPT),
     env: given('a string'),
     typeof: given('a string'),
@@ -123,6 +124,7 @@ function wordsOf(options = {}, pass = passesOf(options)[0]) {
     if (options.rounds !== undefined) words.push('--rounds', String(options.rounds));
     if (options.minCost !== undefined) words.push('--min-cost', String(options.minCost));
     if (options.compact) words.push('--compact');
+    if (options.verbatim) words.push('--verbatim');
     return [...words, ...wordsOfFlags(options)];
 }
 

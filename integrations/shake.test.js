@@ -16,10 +16,10 @@ const program = [process.execPath, path.join(__dirname, 'support', 'fake.js')];
 test('options become words of the command line', () => {
     assert.deepEqual(wordsOf(), ['simplify']);
     const options = {
-        pass: 'dce', keepTop: true, retain: ['a', 'b'], dropImports: true, rounds: 0, minCost: 7, compact: true,
+        pass: 'dce', keepTop: true, retain: ['a', 'b'], dropImports: true, rounds: 0, minCost: 7, compact: true, verbatim: true,
     };
     assert.deepEqual(wordsOf(options), [
-        'dce', '--keep-top', '--retain', 'a', '--retain', 'b', '--drop-imports', '--rounds', '0', '--min-cost', '7', '--compact',
+        'dce', '--keep-top', '--retain', 'a', '--retain', 'b', '--drop-imports', '--rounds', '0', '--min-cost', '7', '--compact', '--verbatim',
     ]);
     assert.deepEqual(wordsOf({ keepTop: false, retain: [], rounds: undefined }), ['simplify']);
 });

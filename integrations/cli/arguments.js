@@ -56,6 +56,7 @@ const OPTIONS = [
     { name: 'keep-top', shake: true, help: 'keep what is declared at the top level', take: (asked) => { asked.shake.keepTop = true; } },
     { name: 'retain', shake: true, value: 'NAME', help: 'keep what is declared with this name', take: (asked, text) => { asked.shake.retain.push(text); } },
     { name: 'drop-imports', shake: true, help: 'remove an import once all of its names are removed', take: (asked) => { asked.shake.dropImports = true; } },
+    { name: 'verbatim', shake: true, help: 'read every module: keep word for word what isn\'t in the core', take: (asked) => { asked.shake.verbatim = true; } },
     { name: 'compact', shake: true, help: 'write no white space that isn\'t needed', take: (asked) => { asked.shake.compact = true; } },
     { name: 'rounds', shake: true, value: 'N', help: 'the most rounds of simplify and optimize', take: (asked, text) => { asked.shake.rounds = countOf('rounds', text, 0); } },
     { name: 'min-cost', shake: true, value: 'N', help: 'json replaces literals of at least N bytes of JSON (1024)', take: (asked, text) => { asked.shake.minCost = countOf('min-cost', text, 0); } },

@@ -34,6 +34,7 @@ export interface Options {
     rounds?: number;
     minCost?: number;
     compact?: boolean;
+    verbatim?: boolean;
     define?: Record<string, string>;
     env?: Record<string, string>;
     typeof?: Record<string, string>;

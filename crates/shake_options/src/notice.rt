@@ -70,6 +70,7 @@ Passes:
   json      replaces large literals by calls of JSON.parse
 
 Options:
+  --verbatim          read every module: keep word for word what isn't in the core
   --compact           write no white space that isn't needed
   --keep-top          keep what is declared at the top level
   --retain NAME       keep what is declared with this name
