@@ -1,5 +1,5 @@
 -- What is read of given texts, module by module.
-use Rattle.std.proofs.Common.{◌≡◌, ◌⊎◌, inl, inr, Bool, true, false, ◌||◌, cond, List, [], ◌∷◌, bytes_eq, Option, Some, None, is_some, string_bytes, refl, sym, ap, subst, ◌∙◌}
+use Rattle.std.proofs.Common.{◌≡◌, ℕ, ◌⊎◌, inl, inr, Bool, true, false, ◌||◌, cond, List, [], ◌∷◌, bytes_eq, Option, Some, None, is_some, string_bytes, refl, sym, ap, subst, ◌∙◌}
 use Rattle.std.proofs.lemmas.Slice.Eq.{bytes_eq-Decides}
 use Rattle.std.specs.BTreeMap.{BTreeMap, get_by_text, UpdatesBy}
 use Rattle.std.specs.Cmp.Lexicographic.{slice_cmp}
@@ -8,12 +8,13 @@ use Rattle.std.specs.String.{string_cmp}
 use Rattle.std.specs.declared.alloc.Global.{Global}
 use Rattle.std.specs.declared.string.String.{String}
 use Rattle.swc_ast.specs.Tree.{Text}
+use Rattle.swc_ast.specs.Views.{expr_tree}
 use Rattle.swc_ast.specs.declared.errors.PassError.{PassError}
 use Rattle.swc_ast.specs.declared.errors.PassError.TheVariants as error
 use Rattle.swc_ast.specs.declared.expressions.Expr.{Expr}
 use Rattle.const_imports.specs.Views.{in_exports}
-use Rattle.swc_const_modules.specs.Texts.{Texts, AllTexts, Names, NamesOne, IsUnreadable, SameExports, GivesAll}
-use Rattle.swc_const_modules.proofs.Maps.{at_text, added, first, key_there}
+use Rattle.swc_const_modules.specs.Texts.{Texts, AllTexts, Names, NamesOne, IsUnreadable, SameExports, GivesAll, IsValue, AreValues, AllAreValues}
+use Rattle.swc_const_modules.proofs.Maps.{at_text, added, first, key_there, Each}
 
 -- refusals
 
@@ -93,3 +94,11 @@ all_given modules s g is h = record { modules = λ x. has_module (get_by_text mo
 -- all modules are to come
 pub all_to_come : (modules : BTreeMap (String Global) (BTreeMap (String Global) Expr)) (g : AllTexts) (s : List (String Global × Texts)) (x : Text) → modules.entries ≡ [] → s ≡ g.entries → Rest (get_by_text modules x) (at_text x s) (get_by_text g x)
 all_to_come modules g s x none all = subst (λ es. Rest (at_text x es) (at_text x s) (get_by_text g x)) (sym none) (ap (λ es. at_text x es) all)
+
+-- all are values
+pub all_values : (mark : ℕ) (modules : BTreeMap (String Global) (BTreeMap (String Global) Expr)) → Each (AreValues mark) modules → AllAreValues mark (record { modules = modules })
+all_values mark modules all s x v h = in_module (get_by_text modules s) (all s) h
+  where
+    in_module : (o : Option (BTreeMap (String Global) Expr)) → ((values : BTreeMap (String Global) Expr) → o ≡ Some values → AreValues mark values) → in_exports o x ≡ Some v → IsValue mark (expr_tree v)
+    in_module (Some values) f e = f values refl x v e
+    in_module None f e = cc

@@ -1,5 +1,5 @@
 -- Maps with text keys, entry by entry.
-use Rattle.std.proofs.Common.{◌≡◌, ℕ, Bool, true, false, ◌||◌, cond, List, [], ◌∷◌, bytes_eq, Option, Some, is_some, string_bytes, refl, sym, ap, ◌∙◌}
+use Rattle.std.proofs.Common.{◌≡◌, ℕ, Bool, true, false, ◌||◌, cond, List, [], ◌∷◌, bytes_eq, Option, Some, is_some, string_bytes, refl, sym, ap, subst, ◌∙◌}
 use Rattle.std.proofs.lemmas.Map.Text.{btree_map_updates_text, is_eq-slice_cmp}
 use Rattle.std.proofs.lemmas.Slice.Eq.{bytes_eq-Decides}
 use Rattle.std.specs.BTreeMap.{BTreeMap, get_by_text, UpdatesBy, is_at}
@@ -39,6 +39,23 @@ or_false false g h = h
 -- an entry's text is put in
 pub added : {X : Type 0} (values new : BTreeMap (String Global) X) (key name : String Global) (v : X) → string_bytes key ≡ string_bytes name → UpdatesBy string_cmp (λ k. slice_cmp nat_cmp (string_bytes key) (string_bytes k)) values new (Some v) → (x : Text) → get_by_text new x ≡ cond (bytes_eq (string_bytes name) x) (Some v) (get_by_text values x)
 added values new key name v same u x = btree_map_updates_text (string_bytes key) values new (Some v) u x ∙ ap (λ n. cond (bytes_eq n x) (Some v) (get_by_text values x)) same
+
+-- what holds of each value
+abbrev pub Each : {X : Type 0} → (X → Type 0) → BTreeMap (String Global) X → Type 0
+Each {X = X} P values = (x : Text) (v : X) → get_by_text values x ≡ Some v → P v
+
+pub none_yet : {X : Type 0} (P : X → Type 0) (values : BTreeMap (String Global) X) → values.entries ≡ [] → Each P values
+none_yet P values none x v h = cc (h, ap (at_text x) none)
+
+pub one_more : {X : Type 0} (P : X → Type 0) (values new : BTreeMap (String Global) X) (key name : String Global) (v : X) → string_bytes key ≡ string_bytes name → UpdatesBy string_cmp (λ k. slice_cmp nat_cmp (string_bytes key) (string_bytes k)) values new (Some v) → P v → Each P values → Each P new
+one_more {X = X} P values new key name v same u p all x w h = by (bytes_eq (string_bytes name) x) (sym (added values new key name v same u x) ∙ h)
+  where
+    it : Some v ≡ Some w → v ≡ w
+    it e = cc
+
+    by : (b : Bool) → cond b (Some v) (get_by_text values x) ≡ Some w → P w
+    by true e = subst P (it e) p
+    by false e = all x w e
 
 module _ {X Y : Type 0} where
   moved : (k : Bool) (v : X) (w : Y) (o : Option X) (l : Option Y) → (is_some (cond k (Some v) o) || is_some l) ≡ (is_some o || is_some (cond k (Some w) l))

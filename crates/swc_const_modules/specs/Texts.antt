@@ -1,13 +1,17 @@
 -- The texts that are given, and what is made of them.
-use Rattle.std.specs.Prelude.{◌≡◌, true, is_some, string_bytes}
+use Rattle.std.specs.Prelude.{ℕ, ◌≡◌, true, Some, is_some, string_bytes}
 use Rattle.std.specs.BTreeMap.{BTreeMap, get_by_text}
 use Rattle.std.specs.declared.alloc.Global.{Global}
 use Rattle.std.specs.declared.string.String.{String}
-use Rattle.swc_ast.specs.Tree.{Text}
+use Rattle.swc_ast.specs.Core.{IsCore}
+use Rattle.swc_ast.specs.Resolved.{IsResolved}
+use Rattle.swc_ast.specs.Tree.{Text, Tree}
+use Rattle.swc_ast.specs.Valid.{valid}
+use Rattle.swc_ast.specs.Views.{expr_tree}
 use Rattle.swc_ast.specs.declared.errors.PassError.{PassError}
 use Rattle.swc_ast.specs.declared.errors.PassError.TheVariants as error
 use Rattle.swc_ast.specs.declared.expressions.Expr.{Expr}
-use Rattle.const_imports.specs.Views.{in_exports, is_given, has_value}
+use Rattle.const_imports.specs.Views.{in_exports, is_given, has_value, value_of}
 use Rattle.const_imports.specs.declared.given.GivenModules.{GivenModules}
 
 -- the texts of a module's exports, and of all modules
@@ -40,3 +44,16 @@ SameExports texts values = (x : Text) → is_some (get_by_text values x) ≡ is_
 pub record GivesAll (g : AllTexts) (m : GivenModules Expr) : Type 0 where
   pub modules : (s : Text) → is_given m s ≡ is_some (get_by_text g s)
   pub exports : (s x : Text) → has_value m s x ≡ is_some (in_exports (get_by_text g s) x)
+
+-- what holds of a value that was read, by the mark of unresolved names
+pub record IsValue (mark : ℕ) (t : Tree) : Type 0 where
+  pub is_valid : valid t ≡ true
+  pub is_resolved : IsResolved mark t
+  pub is_core : IsCore t
+
+-- the same of each value of a module, and of all modules
+abbrev pub AreValues : ℕ → BTreeMap (String Global) Expr → Type 0
+AreValues mark values = (x : Text) (v : Expr) → get_by_text values x ≡ Some v → IsValue mark (expr_tree v)
+
+abbrev pub AllAreValues : ℕ → GivenModules Expr → Type 0
+AllAreValues mark m = (s x : Text) (v : Expr) → value_of m s x ≡ Some v → IsValue mark (expr_tree v)

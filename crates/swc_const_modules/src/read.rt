@@ -1,7 +1,9 @@
 //! The values of given modules, read from texts.
 ghost use Rattle.std.specs.Prelude.{◌≡◌, ◌⊎◌, false, IfOk, IfErr};
 ghost use Rattle.swc_ast.specs.declared.errors.PassError.TheVariants.{OutOfMemory};
-ghost use Rattle.swc_const_modules.specs.Texts.{Names, NamesOne, IsUnreadable, SameExports, GivesAll};
+ghost use Rattle.swc_ast.specs.Marks.{mark_number};
+ghost use Rattle.swc_ast.specs.Views.{expr_tree};
+ghost use Rattle.swc_const_modules.specs.Texts.{Names, NamesOne, IsUnreadable, SameExports, GivesAll, IsValue, AreValues, AllAreValues};
 
 use const_imports::GivenModules;
 use const_pass::ConstModules;
@@ -55,7 +57,8 @@ fn read_export(
     text: &str,
     mark: Mark,
 ) -> Result<Expr, PassError>
-    ensures { IfErr result (λ e. (e ≡ OutOfMemory) ⊎ Names source.now name.now e) }
+    ensures named { IfErr result (λ e. (e ≡ OutOfMemory) ⊎ Names source.now name.now e) }
+    ensures value { IfOk result (λ e. IsValue (mark_number mark) (expr_tree e)) }
 {
     match read_value(alloc, text, mark) {
         Ok(value) => Ok(value),
@@ -72,6 +75,7 @@ fn read_exports(
 ) -> Result<BTreeMap<String, Expr>, PassError>
     ensures named { IfErr result (λ e. (e ≡ OutOfMemory) ⊎ NamesOne source.now texts.now e) }
     ensures exports { IfOk result (λ r. SameExports texts.now r) }
+    ensures values { IfOk result (λ r. AreValues (mark_number mark) r) }
 {
     let mut values = BTreeMap::new(alloc);
     for (name, text) in texts {
@@ -92,6 +96,7 @@ fn read_modules(
 ) -> Result<GivenModules<Expr>, PassError>
     ensures named { IfErr result (λ e. (e ≡ OutOfMemory) ⊎ IsUnreadable globals.now e) }
     ensures given { IfOk result (λ r. GivesAll globals.now r) }
+    ensures values { IfOk result (λ r. AllAreValues (mark_number mark) r) }
 {
     let mut modules = BTreeMap::new(alloc);
     for (source, texts) in globals {
@@ -105,7 +110,7 @@ fn read_modules(
 }
 
 /// Returns the pass that replaces imports of given modules. For each module the texts of its exports are given, by their names.
-/// Each text is read as an expression; the mark is that of unresolved names. Fails with the first value, in the order of modules
+/// Each text is read as an expression, which is valid, resolved under the mark of unresolved names and in the core. Fails with the first value, in the order of modules
 /// and then of names, that can't be read, and if memory runs out.
 pub fn const_modules(
     alloc: Global,
@@ -114,6 +119,7 @@ pub fn const_modules(
 ) -> Result<ConstModules, PassError>
     ensures named { IfErr result (λ e. (e ≡ OutOfMemory) ⊎ IsUnreadable globals.now e) }
     ensures given { IfOk result (λ r. GivesAll globals.now r.given) }
+    ensures values { IfOk result (λ r. AllAreValues (mark_number unresolved_mark) r.given) }
     ensures changed { IfOk result (λ r. ⟦<ConstModules as Repeated>⟧.is_changed r ≡ false) }
 {
     let given = read_modules(alloc, globals, unresolved_mark)?;
