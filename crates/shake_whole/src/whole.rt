@@ -68,7 +68,10 @@ fn work<R: Read, W: Write, E: Write>(
 
 /// Whether a pass substitutes values for names, so that kept text could lose what it mentions.
 fn carries(pass: PassName) -> bool {
-    matches!(pass, PassName::Const | PassName::Inline | PassName::Optimize)
+    matches!(
+        pass,
+        PassName::Const | PassName::Inline | PassName::Optimize
+    )
 }
 
 /// Whether the words give nothing for names, members or imports.
@@ -115,9 +118,7 @@ fn restored<E: Write>(
         return Err(Stop::Said);
     }
     let printed = String::from_utf8(printed).map_err(|_| Stop::Stream(Fault::Output))?;
-    whole
-        .restore(alloc, printed.as_str())
-        .map_err(Stop::Whole)
+    whole.restore(alloc, printed.as_str()).map_err(Stop::Whole)
 }
 
 /// Writes a text.

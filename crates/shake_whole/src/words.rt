@@ -20,7 +20,9 @@ pub fn verbatim_at(args: &[String]) -> Option<usize>
 
 /// The name in front of the first `.` or `[` of a key.
 fn leading(key: &str) -> &str {
-    let end = key.find(|sign| sign == '.' || sign == '[').unwrap_or(key.len());
+    let end = key
+        .find(|sign| sign == '.' || sign == '[')
+        .unwrap_or(key.len());
     key.get(..end).unwrap_or(key)
 }
 

@@ -176,8 +176,9 @@ impl<'a> Printed<'a> {
             )
     }
 
-    /// Whether the call at a place begins with functions that read these names, and which token ends it.
-    pub(crate) fn call_end(&self, place: usize, gets: &[&str]) -> Option<usize> {
+    /// Whether the call at a place begins with functions that read these names, and which token ends it. Where the names are pinned,
+    /// values may be read in their places, since behind these functions there is one for each that writes it.
+    pub(crate) fn call_end(&self, place: usize, gets: &[&str], pinned: bool) -> Option<usize> {
         let close = self.closing(next(place))?;
         let mut at = next(next(place));
         let mut is_first = true;
@@ -191,16 +192,42 @@ impl<'a> Printed<'a> {
             is_first = false;
             let read = at.saturating_add(3);
             let name_at = self.behind(read, &[Kind::LeftParen, Kind::RightParen, Kind::Arrow])?;
-            if name_at != at || self.word(read) != *name {
+            if name_at != at || !(pinned || self.word(read) == *name) {
                 return None;
             }
             at = next(read);
+            // A value has two tokens at most, as `-1` and `void 0`.
+            if pinned && at != close && self.kind(at) != Kind::Comma {
+                at = next(at);
+            }
+        }
+        if pinned {
+            self.sets(at, gets)?;
         }
         if gets.is_empty() || at == close || self.kind(at) == Kind::Comma {
             Some(close)
         } else {
             None
         }
+    }
+
+    /// Whether functions that write these names begin at a place, and what is behind them.
+    fn sets(&self, place: usize, names: &[&str]) -> Option<usize> {
+        let mut at = place;
+        for name in names {
+            if *name == "this" {
+                continue;
+            }
+            let is_in_parens = self.kind(next(at)) == Kind::LeftParen;
+            let arrow = at.saturating_add(if is_in_parens { 4 } else { 2 });
+            let target = next(arrow);
+            let is_set = self.kind(arrow) == Kind::Arrow && self.kind(next(target)) == Kind::Equal;
+            if self.kind(at) != Kind::Comma || !is_set || self.word(target) != *name {
+                return None;
+            }
+            at = target.saturating_add(3);
+        }
+        Some(at)
     }
 
     /// The place of `function () { return k(); }`, by that of the call.
@@ -349,6 +376,48 @@ impl<'a> Printed<'a> {
         } else {
             None
         }
+    }
+
+    /// A place with the `var` of some of these names in front of it, and the braces round both, where it has them.
+    pub(crate) fn with_block(&self, place: Place, names: &[&str]) -> Place {
+        let first = self.var_before(place.first, names).unwrap_or(place.first);
+        let last = place.last;
+        let begins_block = self.kind_before(first, 1) == Kind::LeftBrace
+            && matches!(
+                self.kind_before(first, 2),
+                Kind::LeftBrace | Kind::RightBrace | Kind::Semicolon | Kind::End
+            );
+        let ends_block = self.kind(next(last)) == Kind::RightBrace
+            && self.kind(next(next(last))) != Kind::Else;
+        if begins_block && ends_block {
+            Place {
+                first: first.saturating_sub(1),
+                last: next(last),
+            }
+        } else {
+            Place { first, last }
+        }
+    }
+
+    /// Where `var a, b;` in front of a place begins, where it is of some of these names.
+    fn var_before(&self, place: usize, names: &[&str]) -> Option<usize> {
+        if self.kind_before(place, 1) != Kind::Semicolon {
+            return None;
+        }
+        let mut at = place.checked_sub(2)?;
+        for _ in names {
+            let word = self.word(at);
+            if !names.iter().any(|name| *name == word) {
+                return None;
+            }
+            let before = at.checked_sub(1)?;
+            match self.kind(before) {
+                Kind::Var => return Some(before),
+                Kind::Comma => at = before.checked_sub(1)?,
+                _ => return None,
+            }
+        }
+        None
     }
 
     /// The place of `if (k()) return j(); else if (j()) break;`

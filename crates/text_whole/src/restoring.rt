@@ -234,7 +234,10 @@ impl<'b, 'a> Restorer<'b, 'a> {
         let (shape, unit) = self.meet(number)?;
         let outline = &self.whole.outline;
         let gets = sorted(self.alloc, outline, outline.mentions(unit))?;
-        let Some(last) = self.printed.call_end(place, gets.as_slice()) else {
+        let Some(last) = self
+            .printed
+            .call_end(place, gets.as_slice(), self.whole.fresh.pinned)
+        else {
             return Err(self.lost(number));
         };
         let call = Place { first: place, last };
@@ -242,7 +245,23 @@ impl<'b, 'a> Restorer<'b, 'a> {
             return Err(self.lost(number));
         };
         let text = self.text_at(shape, unit, place)?;
+        let place = self.with_block(shape, unit, place)?;
         self.put(place, text, number)
+    }
+
+    /// The place of a stand-in with what was made for it alone: the declaration of its variables, and a block.
+    fn with_block(&self, shape: Shape, unit: Unit, place: Place) -> Result<Place, AllocError> {
+        if !matches!(shape, Shape::Statement | Shape::Jumps) {
+            return Ok(place);
+        }
+        let mut names: Vec<&str> = Vec::new(self.alloc);
+        for declaration in &declared(self.alloc, &self.whole.outline, unit)? {
+            names.push(self.whole.outline.text(declaration.name))?;
+        }
+        if names.is_empty() && shape == Shape::Statement {
+            return Ok(place);
+        }
+        Ok(self.printed.with_block(place, names.as_slice()))
     }
 
     /// The place of a stand-in, by that of its call.
